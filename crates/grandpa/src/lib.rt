@@ -1,0 +1,57 @@
+// The numbers of a round, in code where the Rust has them; specs/ says what a round's answers mean.
+ghost use mathlib.Core.Path.{_≡_};
+ghost use Prim.Native.Nat.{min};
+ghost use Rattle.grandpa.specs.Weight.{threshold};
+ghost use Rattle.grandpa.specs.Possible.{asked, enough};
+use weights::VoteWeight;
+
+// The weight that a supermajority needs: `threshold` of voter_set.rs.
+pub fn threshold(total: u64) -> u64
+    ensures { λ r. ⌜ r ≡ threshold total ⌝ }
+{
+    let less = VoteWeight(total).sub(VoteWeight(1));
+    let faulty = less.0 / 3;
+    total - faulty
+}
+
+// What the closure `possible_to_precommit` in `update` of round.rs holds: the precommit weight heard, the
+// equivocations still to be had, the weight not heard, and the threshold.
+pub struct PossibleToPrecommit {
+    pub current: u64,
+    pub additional: u64,
+    pub remaining: u64,
+    pub threshold: u64,
+}
+
+impl PossibleToPrecommit {
+    pub fn new(total: u64, threshold: u64, current: u64, equivocations: u64) -> PossibleToPrecommit
+        ensures { λ r. ⌜ r ≡ asked total threshold current equivocations ⌝ }
+    {
+        let tolerated = VoteWeight(total).sub(VoteWeight(threshold));
+        let additional = tolerated.sub(VoteWeight(equivocations));
+        let remaining = VoteWeight(total).sub(VoteWeight(current));
+        PossibleToPrecommit {
+            current,
+            additional: additional.0,
+            remaining: remaining.0,
+            threshold,
+        }
+    }
+
+    // Whether a block of this precommit weight can still get a supermajority.
+    pub fn holds(self, precommitted: u64) -> bool
+        ensures { λ r. ⌜ r ≡ enough self precommitted ⌝ }
+    {
+        let against = VoteWeight(self.current).sub(VoteWeight(precommitted));
+        let equivocations = least(against.0, self.additional);
+        let heard = VoteWeight(precommitted).add(VoteWeight(self.remaining));
+        let full = heard.add(VoteWeight(equivocations));
+        self.threshold <= full.0
+    }
+}
+
+fn least(a: u64, b: u64) -> u64
+    ensures { λ r. ⌜ r ≡ min a b ⌝ }
+{
+    if a <= b { a } else { b }
+}

@@ -1,0 +1,4 @@
+pub mod Tests
+pub mod Loops
+pub mod Alls
+pub mod Sums
