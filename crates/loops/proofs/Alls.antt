@@ -67,3 +67,12 @@ module _ (p : ℕ → Bool) where
       go : Dec (k ≡ n) → (k < n → T (p k) → T (any n p)) → T (p n || any n p)
       go (yes e) f = in-left (p n) (any n p) (subst (λ (j : ℕ). T (p j)) e t)
       go (no e) f = in-right (p n) (any n p) (f (omega arith) t)
+
+  -- the turns of a loop that looks at each place without an early exit
+  pub any-none : false ≡ any 0 p
+  unfolding any
+  any-none = refl
+
+  pub any-more : (n : ℕ) → (p n || any n p) ≡ any (n + 1) p
+  unfolding any
+  any-more n = rw add-one
