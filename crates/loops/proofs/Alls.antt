@@ -68,6 +68,15 @@ module _ (p : ℕ → Bool) where
       go (yes e) f = in-left (p n) (any n p) (subst (λ (j : ℕ). T (p j)) e t)
       go (no e) f = in-right (p n) (any n p) (f (omega arith) t)
 
+  -- the turns of a loop that looks at each place without an early exit
+  pub any-none : false ≡ any 0 p
+  unfolding any
+  any-none = refl
+
+  pub any-more : (n : ℕ) → (p n || any n p) ≡ any (n + 1) p
+  unfolding any
+  any-more n = rw add-one
+
 -- tests that agree below n agree
 pub all-cong : (n : ℕ) (p q : ℕ → Bool) → ((k : ℕ) → k < n → p k ≡ q k) → all n p ≡ all n q
 unfolding all
