@@ -2,7 +2,7 @@
 use mathlib.Core.Bool.{Bool, true, false, cond, not, _&&_, _||_}
 use mathlib.Core.Path.{_≡_, refl, sym, ap, _∙_}
 use mathlib.Core.Logic.{_≢_}
-use Prim.Native.Nat.{ℕ, zero, suc, _+_, _-_, _≤_, _<_}
+use Prim.Native.Nat.{ℕ, zero, suc, _+_, _-_, _*_, _≤_, _<_}
 use native.Mathlib.Numerals.{add-one}
 use native.Mathlib.Nat.{add-zero, add-suc}
 use native.Mathlib.Decide.{ℕ-discrete}
@@ -57,6 +57,15 @@ sum-split n (suc m) f = rw (add-suc n m) (omega (arith, sum-split n m f))
 -- the places below n that a sum over more of them counts, where the rest are 0
 pub sum-short : (n m : ℕ) (f : ℕ → ℕ) → ((k : ℕ) → n ≤ k → f k ≡ 0) → sum (n + m) f ≡ sum n f
 sum-short n m f h = omega (arith, sum-split n m f, sum-zero m (λ k. f (n + k)) (λ k l. h (n + k) (omega arith)))
+
+-- two places at a time
+pub sum-pairs : (n : ℕ) (f : ℕ → ℕ) → sum (2 * n) f ≡ sum n (λ k. f (2 * k) + f (2 * k + 1))
+unfolding sum
+sum-pairs zero f = refl
+sum-pairs (suc n) f =
+    let d : 2 * suc n ≡ suc (suc (2 * n)) = omega arith in
+    let e : 2 * n + 1 ≡ suc (2 * n) = omega arith in
+    rw (d, e) (omega (arith, sum-pairs n f))
 
 -- a place changes and the others stay
 pub sum-change : (n : ℕ) (f g : ℕ → ℕ) (p : ℕ) → p < n → ((k : ℕ) → k ≢ p → f k ≡ g k) → sum n f + g p ≡ sum n g + f p
