@@ -3,3 +3,4 @@ pub mod Loops
 pub mod Alls
 pub mod Sums
 pub mod Firsts
+pub mod Listings

@@ -1,3 +1,4 @@
 pub mod Loop
 pub mod All
 pub mod Sum
+pub mod Listing

@@ -1,0 +1,5 @@
+pub mod Climbs
+pub mod Found
+pub mod Tallies
+pub mod Inserts
+pub mod Listed
