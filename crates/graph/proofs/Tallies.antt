@@ -54,17 +54,17 @@ module _ (bits : ℕ → List ℕ) where
   unfolding join-of
   length-join ns = lengths ns no-bits refl
 
-lands-target : (up : ℕ → ℕ) (b : ℕ) (v : Vote) → T (lands up b v) → (x : ℕ) × Targets v x × T (below up b x)
+pub lands-target : (up : ℕ → ℕ) (b : ℕ) (v : Vote) → T (lands up b v) → (x : ℕ) × Targets v x × T (below up b x)
 lands-target up b silent t = absurd t
 lands-target up b (once x) t = (x, refl, t)
 lands-target up b (twice x) t = (x, refl, t)
 
-lands-above : (up : ℕ → ℕ) (falls : (k : ℕ) → up k ≤ pred k) (a b : ℕ) (v : Vote) → T (below up a b) → T (lands up b v) → T (lands up a v)
+pub lands-above : (up : ℕ → ℕ) (falls : (k : ℕ) → up k ≤ pred k) (a b : ℕ) (v : Vote) → T (below up a b) → T (lands up b v) → T (lands up a v)
 lands-above up falls a b silent l t = t
 lands-above up falls a b (once x) l t = below-trans up falls a b x l t
 lands-above up falls a b (twice x) l t = below-trans up falls a b x l t
 
-target-lands : (up : ℕ → ℕ) (b x : ℕ) (v : Vote) → Targets v x → T (below up b x) → T (lands up b v)
+pub target-lands : (up : ℕ → ℕ) (b x : ℕ) (v : Vote) → Targets v x → T (below up b x) → T (lands up b v)
 target-lands up b x silent t l = absurd t
 target-lands up b x (once y) t l = subst (λ (z : ℕ). T (below up b z)) (sym t) l
 target-lands up b x (twice y) t l = subst (λ (z : ℕ). T (below up b z)) (sym t) l

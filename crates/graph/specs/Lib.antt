@@ -1,3 +1,4 @@
 pub mod Search
 pub mod Graph
+pub mod Ghost
 pub mod Shape
