@@ -58,6 +58,12 @@ sum-split n (suc m) f = rw (add-suc n m) (omega (arith, sum-split n m f))
 pub sum-short : (n m : ℕ) (f : ℕ → ℕ) → ((k : ℕ) → n ≤ k → f k ≡ 0) → sum (n + m) f ≡ sum n f
 sum-short n m f h = omega (arith, sum-split n m f, sum-zero m (λ k. f (n + k)) (λ k l. h (n + k) (omega arith)))
 
+-- fewer places sum to at most as much
+pub sum-fewer : (m n : ℕ) (f : ℕ → ℕ) → m ≤ n → sum m f ≤ sum n f
+sum-fewer m n f h =
+    let e : n ≡ m + (n - m) = omega arith in
+    rw e (omega (arith, sum-split m (n - m) f))
+
 -- a place changes and the others stay
 pub sum-change : (n : ℕ) (f g : ℕ → ℕ) (p : ℕ) → p < n → ((k : ℕ) → k ≢ p → f k ≡ g k) → sum n f + g p ≡ sum n g + f p
 unfolding sum

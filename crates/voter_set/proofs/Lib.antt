@@ -1,1 +1,6 @@
 pub mod Lookups
+pub mod Pairs
+pub mod Shares
+pub mod Turns
+pub mod Entering
+pub mod Gathering

@@ -1,1 +1,4 @@
+pub mod Voters
+pub mod Steps
 pub mod Lookup
+pub mod Good
