@@ -4,3 +4,4 @@ pub mod Shares
 pub mod Turns
 pub mod Entering
 pub mod Gathering
+pub mod Goods

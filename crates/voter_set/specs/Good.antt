@@ -2,10 +2,12 @@
 -- rising, weights non-zero, total and T as above; unused places 0.
 use mathlib.Core.Bool.{Bool, not, _&&_, _||_}
 use mathlib.Core.List.{List}
-use Prim.Native.Nat.{ℕ, _-_}
+use mathlib.Core.Path.{_≡_}
+use Prim.Native.Nat.{ℕ, _-_, _≤_, _<_}
 use lib.Dec.{eqb, leb, ltb}
 use lib.ListN.{length, getD}
 use Rattle.loops.specs.All.{all}
+use Rattle.loops.specs.Sum.{sum}
 use Rattle.grandpa.specs.Weight.{threshold}
 use Rattle.voter_set.specs.declared.VoterSet.{VoterSet}
 use Rattle.voter_set.specs.Voters.{total-of}
@@ -30,3 +32,15 @@ sound ids weights count t total =
 
 abbrev pub good : VoterSet → Bool
 good s = sound (s .ids) (s .weights) (s .count) (s .threshold) (s .total)
+
+-- what the test says (`good-means`)
+pub record Good (s : VoterSet) : Type 0 where
+  pub ids-sized : length (s .ids) ≡ 64
+  pub weights-sized : length (s .weights) ≡ 64
+  pub few : s .count ≤ 64
+  pub ids-rise : (j k : ℕ) → j < k → k < s .count → getD (s .ids) j 0 < getD (s .ids) k 0
+  pub weigh-some : (k : ℕ) → k < s .count → 0 < getD (s .weights) k 0
+  pub no-id : (k : ℕ) → s .count ≤ k → getD (s .ids) k 0 ≡ 0
+  pub no-weight : (k : ℕ) → s .count ≤ k → getD (s .weights) k 0 ≡ 0
+  pub total-is : s .total ≡ sum 64 (λ k. getD (s .weights) k 0)
+  pub threshold-is : s .threshold ≡ threshold (s .total)
