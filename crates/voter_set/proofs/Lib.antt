@@ -5,3 +5,4 @@ pub mod Turns
 pub mod Entering
 pub mod Gathering
 pub mod Goods
+pub mod Made
