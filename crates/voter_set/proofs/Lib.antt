@@ -6,3 +6,5 @@ pub mod Entering
 pub mod Gathering
 pub mod Goods
 pub mod Made
+pub mod Orders
+pub mod Examples

@@ -20,10 +20,12 @@ use Rattle.voter_set.specs.declared.Answer.{Answer}
 use Rattle.voter_set.specs.declared.Answer.the-variants.{Made, Refused}
 use Rattle.voter_set.specs.Voters.{Pair, voters, weight-of, ids-of, weights-of, laid, no-voters, refused, total-of, new}
 use Rattle.voter_set.specs.Steps.{Rising}
+use Rattle.voter_set.specs.Lookup.{get, told}
 use Rattle.voter_set.specs.Good.{good, Good}
 use Rattle.voter_set.proofs.Pairs.{length-ids, length-weights}
 use Rattle.voter_set.proofs.Shares.{Live, weight-in, held, rising-pair, live-at, held-at, held-some, sum-weights, voters-rising, voters-live, voters-weight, voters-held}
 use Rattle.voter_set.proofs.Goods.{means-good}
+use Rattle.voter_set.proofs.Lookups.{Known, Unknown, get-cases}
 
 -- the refusals, each given exactly when the earlier ones are not
 module _ (ids weights : List ℕ) where
@@ -172,3 +174,17 @@ module _ (ids weights : List ℕ) (m : new ids weights .answer ≡ Made) where
   made-voter x h =
       let r = held-some x (voters ids weights (length ids)) (omega (arith, voters-held ids weights x (length ids))) in
       (r .0, omega (arith, r .1, made-count), made-id (r .0) ∙ r .2)
+
+  -- so what the set tells of any id is what the pairs give it, and it is a voter exactly where that is not zero
+  pub made-told : (x : ℕ) → told (get (new ids weights .voters) x) ≡ weight-of ids weights (length ids) x
+  made-told x = go (get-cases (new ids weights .voters) (new-good ids weights) x)
+    where
+      go : ((k : ℕ) × Known (new ids weights .voters) x k) ⊎ Unknown (new ids weights .voters) x
+          → told (get (new ids weights .voters) x) ≡ weight-of ids weights (length ids) x
+      go (inl (k, r)) =
+          ap told (r .got) ∙ made-weight k (r .inside) ∙ ap (weight-of ids weights (length ids)) (r .is-id)
+      go (inr r) = ap told (r .got) ∙ nothing (ℕ-discrete (weight-of ids weights (length ids) x) 0)
+        where
+          nothing : Dec (weight-of ids weights (length ids) x ≡ 0) → 0 ≡ weight-of ids weights (length ids) x
+          nothing (yes e) = sym e
+          nothing (no e) = let v = made-voter x (omega arith) in absurd (r .nowhere (v .0) (v .1) (v .2))
