@@ -4,14 +4,16 @@ use mathlib.Core.List.{List, [], _∷_}
 use mathlib.Core.Path.{_≡_, refl, sym, ap, _∙_, subst}
 use mathlib.Core.Logic.{_⊎_, inl, inr}
 use Prim.Native.Nat.{ℕ, zero, suc, _+_, _-_, _*_, _/_, _%_, _^_, _≤_, _<_}
+use native.Mathlib.Nat.{add-zero, one-mul}
 use native.Mathlib.Decide.{ℕ-discrete, decLt}
 use native.Mathlib.Omega.{arith}
 use borrow.Author.Tests.{eq-eqb, ne-eqb}
-use lib.Bits.{bitOr}
-use lib.Count.{leadingZeros, leading-top}
+use lib.Arith.{bin-ind}
+use lib.Bits.{bitAnd, and-block, and-self, and-shifted}
+use lib.Count.{leadingZeros, leading-top, leading-unique}
 use lib.Dec.{T, eqb, eqb→eq}
 use lib.ListN.{length, getD, set, length-set}
-use lib.Pow.{pow-mono, high}
+use lib.Pow.{pow-pos, pow-mono, shl-shr, high}
 use lib.Seq.{getD-set-same, getD-set-other}
 use Rattle.loops.proofs.Loops.{Least, least, first-least, first-none}
 use Rattle.bitfield.specs.declared.Found.the-variants.{Nothing, At}
@@ -37,6 +39,53 @@ top w h fits =
       rw k under,
       record { passes = rw (k, one); before = λ i l. inWord-low w i (omega (arith, pow-mono {i = suc j} {j = 63 - i} (omega (arith, t .1)))) },
     )
+
+-- a number that isn't 0 ends in a 1 and k noughts
+ends : (w : ℕ) → 0 < w → (m : ℕ) × (k : ℕ) × (w ≡ m * 2 ^ suc k + 2 ^ k)
+ends = bin-ind (λ w. 0 < w → (m : ℕ) × (k : ℕ) × (w ≡ m * 2 ^ suc k + 2 ^ k)) (λ h. absurd (omega arith)) (λ w r h. go w h r (ℕ-discrete (w % 2) 1))
+  where
+    go : (w : ℕ) → 0 < w → (0 < w / 2 → (m : ℕ) × (k : ℕ) × (w / 2 ≡ m * 2 ^ suc k + 2 ^ k)) → Dec (w % 2 ≡ 1) → (m : ℕ) × (k : ℕ) × (w ≡ m * 2 ^ suc k + 2 ^ k)
+    go w h r (yes e) = (w / 2, 0, omega arith)
+    go w h r (no e) =
+        let t = r (omega arith) in
+        let double : 2 ^ suc (suc (t .1)) ≡ 2 * 2 ^ suc (t .1) = omega arith in
+        (t .0, suc (t .1), rw double (omega (arith, t .2)))
+
+-- the lowest bit of a word: `and` with the word less 1 takes it off, and the leading zeros of the difference lead to it
+pub record Low (w : ℕ) : Type 0 where
+  pub under : leadingZeros 64 (w - bitAnd w (w - 1)) < 64
+  pub passes : inWord w (leadingZeros 64 (w - bitAnd w (w - 1))) ≡ true
+  pub left : bitAnd w (w - 1) ≡ w - 2 ^ (63 - leadingZeros 64 (w - bitAnd w (w - 1)))
+  pub less : bitAnd w (w - 1) < w
+
+low-of : (w m k : ℕ) → w ≡ m * 2 ^ suc k + 2 ^ k → w < 2 ^ 64 → Low w
+unfolding inWord
+low-of w m k parts fits =
+    let double : 2 ^ suc k ≡ 2 * 2 ^ k = omega arith in
+    let pos : 0 < 2 ^ k = pow-pos k in
+    let few : k < 64 = bound k (decLt k 64) (omega arith) in
+    let ands : bitAnd (m * 2 ^ suc k + 2 ^ k) (m * 2 ^ suc k + (2 ^ k - 1)) ≡ m * 2 ^ suc k
+    = and-block (suc k) m m (2 ^ k) (2 ^ k - 1) (omega arith) (omega arith) ∙ rw (and-self m, alone k) (add-zero (m * 2 ^ suc k)) in
+    let one-less : w - 1 ≡ m * 2 ^ suc k + (2 ^ k - 1) = omega arith in
+    let rest : bitAnd w (w - 1) ≡ m * 2 ^ suc k = rw (one-less, parts) ands in
+    let it : w - bitAnd w (w - 1) ≡ 2 ^ k = omega arith in
+    let zeros : leadingZeros 64 (w - bitAnd w (w - 1)) ≡ 63 - k
+    = ap (leadingZeros 64) it ∙ sym (leading-unique 64 (2 ^ k) (63 - k) (suc k) (omega arith) (omega arith) (omega arith)) in
+    let place : 63 - leadingZeros 64 (w - bitAnd w (w - 1)) ≡ k = omega arith in
+    let odd : w ≡ (m * 2 + 1) * 2 ^ k = parts ∙ rw double (omega arith) in
+    let digit : w / 2 ^ k ≡ m * 2 + 1 = ap (λ (n : ℕ). n / 2 ^ k) odd ∙ shl-shr (m * 2 + 1) k in
+    let one : (m * 2 + 1) % 2 ≡ 1 = omega arith in
+    record { under = omega arith; passes = rw (place, digit, one); left = rw place (omega arith); less = omega arith }
+  where
+    bound : (k : ℕ) → Dec (k < 64) → 2 ^ k < 2 ^ 64 → k < 64
+    bound k (yes l) g = l
+    bound k (no l) g = absurd (omega (arith, pow-mono {i = 64} {j = k} (omega arith)))
+
+    alone : (k : ℕ) → bitAnd (2 ^ k) (2 ^ k - 1) ≡ 0
+    alone k = ap (λ (n : ℕ). bitAnd n (2 ^ k - 1)) (sym (one-mul (2 ^ k))) ∙ and-shifted 1 k (2 ^ k - 1) (omega (arith, pow-pos k))
+
+pub low : (w : ℕ) → 0 < w → w < 2 ^ 64 → Low w
+low w h fits = let e = ends w h in low-of w (e .0) (e .1) (e .2) fits
 
 module _ (ws : List ℕ) (b : ℕ) where
   pub length-cut : length (cut ws b) ≡ length ws
