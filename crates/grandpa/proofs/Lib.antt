@@ -1,1 +1,9 @@
 pub mod Numbers
+pub mod Trees
+pub mod Votes
+pub mod Searches
+pub mod Answers
+pub mod Growth
+pub mod Kept
+pub mod Views
+pub mod Cases

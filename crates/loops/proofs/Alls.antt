@@ -67,3 +67,23 @@ module _ (p : ℕ → Bool) where
       go : Dec (k ≡ n) → (k < n → T (p k) → T (any n p)) → T (p n || any n p)
       go (yes e) f = in-left (p n) (any n p) (subst (λ (j : ℕ). T (p j)) e t)
       go (no e) f = in-right (p n) (any n p) (f (omega arith) t)
+
+  -- the turns of a loop that looks at each place without an early exit
+  pub any-none : false ≡ any 0 p
+  unfolding any
+  any-none = refl
+
+  pub any-more : (n : ℕ) → (p n || any n p) ≡ any (n + 1) p
+  unfolding any
+  any-more n = rw add-one
+
+-- tests that agree below n agree
+pub all-cong : (n : ℕ) (p q : ℕ → Bool) → ((k : ℕ) → k < n → p k ≡ q k) → all n p ≡ all n q
+unfolding all
+all-cong zero p q h = refl
+all-cong (suc n) p q h = rw (h n (omega arith), all-cong n p q (λ k l. h k (omega arith)))
+
+pub any-cong : (n : ℕ) (p q : ℕ → Bool) → ((k : ℕ) → k < n → p k ≡ q k) → any n p ≡ any n q
+unfolding any
+any-cong zero p q h = refl
+any-cong (suc n) p q h = rw (h n (omega arith), any-cong n p q (λ k l. h k (omega arith)))

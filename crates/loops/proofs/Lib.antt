@@ -2,3 +2,4 @@ pub mod Tests
 pub mod Loops
 pub mod Alls
 pub mod Sums
+pub mod Firsts
