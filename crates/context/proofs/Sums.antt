@@ -13,7 +13,7 @@ use lib.Dec.{T, eqb}
 use lib.ListN.{length, getD}
 use lib.Pow.{shr-shr}
 use Rattle.loops.specs.Sum.{sum, weigh}
-use Rattle.loops.proofs.Tests.{T-true, T-false}
+use Rattle.loops.proofs.Tests.{T-true, T-false, and-true, and-false}
 use Rattle.loops.proofs.Sums.{sum-cong, sum-split, sum-pairs, weigh-none, weigh-put-in}
 use Rattle.weights.specs.Weights.{most, plus}
 use Rattle.bitfield.specs.Bits.{inWord, has, every}
@@ -41,10 +41,6 @@ word-step v w some fits = weigh-put-in 64 v (inWord (bitAnd w (w - 1))) (inWord 
     out : inWord (bitAnd w (w - 1)) z ≡ false
     out = cut z (l .under) ∙ rw (eq-eqb z z refl, l .passes)
 
-    and-true : (x : Bool) → (x && true) ≡ x
-    and-true true = refl
-    and-true false = refl
-
     same : (b : ℕ) → b < 64 → b ≢ z → inWord (bitAnd w (w - 1)) b ≡ inWord w b
     same b h n = cut b h ∙ rw (ne-eqb b z n) (and-true (inWord w b))
 
@@ -68,17 +64,9 @@ module _ (v : ℕ → ℕ) where
     where
       taken : (d : ℕ) → d < 2 → (c : ℕ) → c % 2 ≡ d → has (every d bits) c ≡ has bits c
       taken d h c e = has-every d h bits c ∙ rw (eq-eqb (c % 2) d e) (and-true (has bits c))
-        where
-          and-true : (x : Bool) → (x && true) ≡ x
-          and-true true = refl
-          and-true false = refl
 
       left-out : (d : ℕ) → d < 2 → (c : ℕ) → c % 2 ≢ d → has (every d bits) c ≡ false
       left-out d h c n = has-every d h bits c ∙ rw (ne-eqb (c % 2) d n) (and-false (has bits c))
-        where
-          and-false : (x : Bool) → (x && false) ≡ false
-          and-false true = refl
-          and-false false = refl
 
       pair : (phase : Phase) (p : ℕ)
           → cond (has (every (offset phase) bits) (2 * p)) (v (2 * p / 2)) 0 + cond (has (every (offset phase) bits) (2 * p + 1)) (v ((2 * p + 1) / 2)) 0

@@ -9,7 +9,7 @@ use borrow.Author.Tests.{eq-eqb, ne-eqb}
 use lib.Dec.{T, eqb, eqb→eq}
 use lib.ListN.{length, getD, replicate}
 use Rattle.loops.specs.Sum.{sum, weigh}
-use Rattle.loops.proofs.Tests.{T-true, T-false, in-left, left-of, right-of, same-test}
+use Rattle.loops.proofs.Tests.{T-true, T-false, in-left, left-of, right-of, or-false, same-test}
 use Rattle.loops.proofs.Sums.{sum-short, weigh-cong, weigh-mono, weigh-le, weigh-both, weigh-put}
 use Rattle.weights.specs.Weights.{most}
 use Rattle.bitfield.specs.Bits.{has, put, joined, blank}
@@ -137,10 +137,6 @@ module _ (n : ℕ) (v : ℕ → ℕ) (phase : Phase) where
     pub weigh-other : (other : Phase) (p : ℕ) → p < 32 * length bits → same-phase phase other ≡ false
         → weigh n (voted (put bits (bit other p)) phase) v ≡ weigh n (voted bits phase) v
     weigh-other other p l d = weigh-cong n v (voted (put bits (bit other p)) phase) (voted bits phase) (λ q h. voted-put bits other p l phase q ∙ rw d (or-false (voted bits phase q)))
-      where
-        or-false : (x : Bool) → (x || false) ≡ x
-        or-false true = refl
-        or-false false = refl
 
     pub weigh-put-le : (other : Phase) (p : ℕ) → p < 32 * length bits
         → weigh n (voted bits phase) v ≤ weigh n (voted (put bits (bit other p)) phase) v

@@ -1,1 +1,2 @@
 pub mod Votes
+pub mod Context

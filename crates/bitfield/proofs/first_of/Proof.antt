@@ -2,6 +2,8 @@ use borrow.Author.Needs.{needs}
 use mathlib.Core.Path.{refl}
 use native.Mathlib.Omega.{arith}
 use lib.Count.{leading-le}
+use Rattle.loops.proofs.Tests.{true-T}
+use Rattle.bitfield.proofs.Words.{rest}
 use Rattle.bitfield.proofs.Walks.{top}
 use Rattle.bitfield.proofs.first_of.Statement.{statement}
 use Rattle.bitfield.proofs.first_of.Tie as tie
@@ -16,7 +18,7 @@ cast-result c = omega (arith, leading-le 64 (c .args .word))
 returns : tie.Need-returns
 returns c =
     let t = top (c .args .word) (c .pre) (search needs) in
-    (refl, t .0, t .1)
+    (refl, t .inside, rest (c .args .word) _ (true-T _ (t .passes)) .least)
 
 pub first-of-spec : {M : Type 1} → statement M
 first-of-spec = tie.close (tie.spec cast-result returns)
