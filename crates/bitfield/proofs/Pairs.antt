@@ -62,9 +62,9 @@ module _ (ws : List ℕ) (two : length ws ≡ 2) where
   unfolding joined words
   joined-two other = rw two
 
-  pub every-two : (d m : ℕ) → mask d ≡ m → every d ws ≡ bitAnd (getD ws 0 0) m ∷ bitAnd (getD ws 1 0) m ∷ []
-  unfolding every words
-  every-two d m e = rw (two, e)
+  pub every-two : (d m : ℕ) → mask d ≡ m → every d ws ≡ words 2 (λ i. bitAnd (getD ws i 0) m)
+  unfolding every
+  every-two d m e = rw two (ap (λ (k : ℕ). words 2 (λ i. bitAnd (getD ws i 0) k)) e)
 
   pub blank-first : getD ws 0 0 ≢ 0 → blank ws ≡ false
   unfolding blank all
