@@ -1,7 +1,7 @@
 -- Two words as the code writes them.
 use mathlib.Core.Bool.{Bool, true, false, _&&_}
 use mathlib.Core.List.{List, [], _∷_}
-use mathlib.Core.Path.{_≡_, refl, sym, ap, _∙_}
+use mathlib.Core.Path.{_≡_, refl, ap, _∙_, subst}
 use mathlib.Core.Logic.{_≢_}
 use Prim.Native.Nat.{ℕ, zero, suc, _+_, _-_, _*_, _/_, _%_, _^_, _≤_, _<_}
 use native.Mathlib.Nat.{zero-add}
@@ -9,10 +9,11 @@ use native.Mathlib.Omega.{arith}
 use borrow.Author.Tests.{eq-eqb, ne-eqb}
 use lib.Bits.{bitAnd, bitOr}
 use lib.Count.{leadingZeros}
-use lib.Dec.{eqb}
+use lib.Dec.{T, eqb}
 use lib.ListN.{length, getD, set}
 use Rattle.loops.specs.All.{all}
 use Rattle.loops.specs.Sum.{sum}
+use Rattle.loops.proofs.Tests.{and-true, and-false}
 use Rattle.bitfield.specs.declared.Found.the-variants.{Nothing, At}
 use Rattle.bitfield.specs.declared.Step.{Step}
 use Rattle.bitfield.specs.Bits.{inWord, has, put, words, joined, blank, mask, every}
@@ -61,32 +62,24 @@ module _ (ws : List ℕ) (two : length ws ≡ 2) where
   unfolding joined words
   joined-two other = rw two
 
-  pub every-two : (d m : ℕ) → mask d ≡ m → every d ws ≡ bitAnd (getD ws 0 0) m ∷ bitAnd (getD ws 1 0) m ∷ []
-  unfolding every words
-  every-two d m e = rw (two, e)
+  pub every-two : (d m : ℕ) → mask d ≡ m → every d ws ≡ words 2 (λ i. bitAnd (getD ws i 0) m)
+  unfolding every
+  every-two d m e = rw two (ap (λ (k : ℕ). words 2 (λ i. bitAnd (getD ws i 0) k)) e)
 
   pub blank-first : getD ws 0 0 ≢ 0 → blank ws ≡ false
   unfolding blank all
-  blank-first n = rw (two, ne-eqb (getD ws 0 0) 0 n) (last (eqb (getD ws 1 0) 0))
-    where
-      last : (x : Bool) → (x && false) ≡ false
-      last true = refl
-      last false = refl
+  blank-first n = rw (two, ne-eqb (getD ws 0 0) 0 n) (and-false (eqb (getD ws 1 0) 0))
 
   pub blank-second : getD ws 0 0 ≡ 0 → blank ws ≡ eqb (getD ws 1 0) 0
   unfolding blank all
-  blank-second z = rw (two, eq-eqb (getD ws 0 0) 0 z) (last (eqb (getD ws 1 0) 0))
-    where
-      last : (x : Bool) → (x && true) ≡ x
-      last true = refl
-      last false = refl
+  blank-second z = rw (two, eq-eqb (getD ws 0 0) 0 z) (and-true (eqb (getD ws 1 0) 0))
 
   -- a step at a bit of word i, the words before it being 0
   step-at : (i : ℕ) → i < 2 → ((k : ℕ) → k < i → getD ws k 0 ≡ 0) → 0 < getD ws i 0 → getD ws i 0 < 2 ^ 64
       → next ws ≡ stepped (64 * i + leadingZeros 64 (getD ws i 0)) (set ws i (getD ws i 0 - 2 ^ (63 - leadingZeros 64 (getD ws i 0))))
   step-at i h zeros some fits =
       let z = leadingZeros 64 (getD ws i 0) in
-      next-word ws i (omega arith) zeros some fits ∙ ap (stepped (64 * i + z)) (cut-at ws i z (top (getD ws i 0) some fits .0))
+      next-word ws i (omega arith) zeros some fits ∙ ap (stepped (64 * i + z)) (cut-at ws i z (top (getD ws i 0) some fits .inside))
 
   pub next-first : 0 < getD ws 0 0 → getD ws 0 0 < 2 ^ 64
       → next ws ≡ stepped (leadingZeros 64 (getD ws 0 0)) ((getD ws 0 0 - 2 ^ (63 - leadingZeros 64 (getD ws 0 0))) ∷ getD ws 1 0 ∷ [])
@@ -101,4 +94,4 @@ module _ (ws : List ℕ) (two : length ws ≡ 2) where
       only (suc k) h = absurd (omega arith)
 
   pub next-end : getD ws 0 0 ≡ 0 → getD ws 1 0 ≡ 0 → next ws ≡ record { found = Nothing; left = ws }
-  next-end z y = next-none ws (λ c h. blank-none ws (blank-second z ∙ eq-eqb (getD ws 1 0) 0 y) c)
+  next-end z y = next-none ws (λ c h. subst T (blank-none ws (blank-second z ∙ eq-eqb (getD ws 1 0) 0 y) c))

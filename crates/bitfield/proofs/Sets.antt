@@ -14,7 +14,7 @@ use lib.Pow.{pow-lt}
 use lib.Seq.{getD-set-same, getD-set-other, set-out, ext-getD}
 use Rattle.loops.specs.All.{all}
 use Rattle.loops.specs.Sum.{sum}
-use Rattle.loops.proofs.Tests.{T-true, true-T, same-test}
+use Rattle.loops.proofs.Tests.{T-true, true-T, or-false, same-test}
 use Rattle.loops.proofs.Alls.{all-at, all-intro}
 use Rattle.bitfield.specs.Bits.{inWord, has, put, words, joined, blank, mask, every}
 use Rattle.bitfield.proofs.Words.{inWord-or, inWord-and, inWord-zero, inWord-one, word-ext}
@@ -71,10 +71,6 @@ getD-every d ws i = getD-words (length ws) _ (λ j h. rw (List·getD-eq-default 
 pub same-place : (a b c d : ℕ) → (a ≡ b → c ≡ d) → (c ≡ d → a ≡ b) → eqb a b ≡ eqb c d
 same-place a b c d f g = same-test (eqb a b) (eqb c d) (λ t. T-true (eq-eqb c d (f (eqb→eq a b t)))) (λ t. T-true (eq-eqb a b (g (eqb→eq c d t))))
 
-or-false : (x : Bool) → x ≡ (x || false)
-or-false true = refl
-or-false false = refl
-
 pub has-put : (ws : List ℕ) (b c : ℕ) → b < 64 * length ws → has (put ws b) c ≡ (has ws c || eqb c b)
 unfolding has put
 has-put ws b c h = go (ℕ-discrete (c / 64) (b / 64))
@@ -88,7 +84,7 @@ has-put ws b c h = go (ℕ-discrete (c / 64) (b / 64))
         let one : inWord (2 ^ (63 - b % 64)) (c % 64) ≡ eqb c b
         = inWord-one (b % 64) (c % 64) (omega arith) (omega arith) ∙ same-place (c % 64) (b % 64) c b (λ r. omega arith) (λ r. omega arith) in
         rw (e, at, inWord-or (getD ws (b / 64) 0) (2 ^ (63 - b % 64)) (c % 64), one)
-    go (no n) = rw (getD-set-other ws (b / 64) (c / 64) w 0 n, ne-eqb c b (λ e. n (ap (λ (x : ℕ). x / 64) e))) (or-false (inWord (getD ws (c / 64) 0) (c % 64)))
+    go (no n) = rw (getD-set-other ws (b / 64) (c / 64) w 0 n, ne-eqb c b (λ e. n (ap (λ (x : ℕ). x / 64) e))) (sym (or-false (inWord (getD ws (c / 64) 0) (c % 64))))
 
 pub put-past : (ws : List ℕ) (b : ℕ) → 64 * length ws ≤ b → put ws b ≡ ws
 unfolding put

@@ -11,7 +11,7 @@ use lib.Arith.{digits-mod, digits-div}
 use lib.Bits.{bitAnd, bitOr, and-shr, and-step, or-shr, or-step, or-shifted-r, or-block, or-zero-r}
 use lib.Dec.{T, eqb, eqb→eq}
 use lib.Pow.{pow-pos, pow-lt, pow-mono, pow-add, shl-shr, shl-exact, shr-shr, high, split}
-use Rattle.loops.proofs.Tests.{T-true}
+use Rattle.loops.proofs.Tests.{T-true, true-false, and-true, or-false}
 use Rattle.bitfield.specs.Bits.{inWord}
 
 -- what is below a power of two has none of it
@@ -131,13 +131,9 @@ inWord-cut w p b hp hb t =
     = ap (λ (x : ℕ). inWord x b) (sym (rest w p t .whole)) ∙ inWord-or r (2 ^ (63 - p)) b ∙ ap (λ (x : Bool). inWord r b || x) (inWord-one p b hp hb) in
     rw e (go (ℕ-discrete b p))
   where
-    without : (x : Bool) → x ≡ ((x || false) && true)
-    without true = refl
-    without false = refl
-
     go : Dec (b ≡ p) → inWord (w - 2 ^ (63 - p)) b ≡ ((inWord (w - 2 ^ (63 - p)) b || eqb b p) && not (eqb b p))
     go (yes i) = rw (eq-eqb b p i, i, rest w p t .out)
-    go (no i) = rw (ne-eqb b p i) (without (inWord (w - 2 ^ (63 - p)) b))
+    go (no i) = rw (ne-eqb b p i) (sym (and-true _ ∙ or-false (inWord (w - 2 ^ (63 - p)) b)))
 
 -- numbers of n binary digits are equal where their digits are
 pub digits-ext : (n a b : ℕ) → a < 2 ^ n → b < 2 ^ n → ((k : ℕ) → k < n → a / 2 ^ k % 2 ≡ b / 2 ^ k % 2) → a ≡ b
@@ -162,14 +158,11 @@ word-ext a b ha hb same = digits-ext 64 a b ha hb (λ k h. digit k h)
     digit-eq : (x y : ℕ) → x < 2 → y < 2 → eqb x 1 ≡ eqb y 1 → x ≡ y
     digit-eq x y hx hy e = go (ℕ-discrete x 1) (ℕ-discrete y 1)
       where
-        clash : true ≡ false → ⊥
-        clash q = let z : _≡_ {A = ℕ} 0 1 = cc in omega arith
-
         go : Dec (x ≡ 1) → Dec (y ≡ 1) → x ≡ y
         go (yes i) (yes j) = omega arith
         go (no i) (no j) = omega arith
-        go (yes i) (no j) = absurd (clash (sym (eq-eqb x 1 i) ∙ e ∙ ne-eqb y 1 j))
-        go (no i) (yes j) = absurd (clash (sym (eq-eqb y 1 j) ∙ sym e ∙ ne-eqb x 1 i))
+        go (yes i) (no j) = absurd (true-false (eq-eqb x 1 i) (e ∙ ne-eqb y 1 j))
+        go (no i) (yes j) = absurd (true-false (eq-eqb y 1 j) (sym e ∙ ne-eqb x 1 i))
 
     digit : (k : ℕ) → k < 64 → a / 2 ^ k % 2 ≡ b / 2 ^ k % 2
     digit k h =

@@ -3,16 +3,22 @@
 use mathlib.Core.Bool.{Bool, cond}
 use mathlib.Core.List.{List, [], _∷_}
 use Prim.Native.Nat.{ℕ, zero, suc, _-_, _*_, _/_, _%_, _^_}
+use lib.Count.{leadingZeros}
 use lib.ListN.{length, getD, set}
 use Rattle.loops.specs.Loop.{first}
 use Rattle.bitfield.specs.declared.Found.{Found}
 use Rattle.bitfield.specs.declared.Found.the-variants.{Nothing, At}
 use Rattle.bitfield.specs.declared.Step.{Step}
+use Rattle.bitfield.specs.declared.First.{First}
 use Rattle.bitfield.specs.Bits.{has}
 
 -- bit b, which is set, taken off
 unfoldable pub cut : List ℕ → ℕ → List ℕ
 cut ws b = set ws (b / 64) (getD ws (b / 64) 0 - 2 ^ (63 - b % 64))
+
+-- the first set bit of a word and the rest of it
+abbrev pub firstOf : ℕ → First
+firstOf w = record { at = leadingZeros 64 w; rest = w - 2 ^ (63 - leadingZeros 64 w) }
 
 -- the first set bit and the words without it, or none
 unfoldable pub next : List ℕ → Step

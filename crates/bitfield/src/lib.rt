@@ -1,11 +1,11 @@
 // Sets of bits by value: bitfield.rs of finality-grandpa. There the words grow as bits are set; here there are
 // always two, enough for 64 voters with two bits each, and a bit past them is never set.
 ghost use mathlib.Core.Path.{_≡_};
-ghost use Prim.Native.Nat.{_≤_, _<_, _-_, _^_};
-ghost use lib.ListN.{replicate};
-ghost use lib.Count.{leadingZeros};
-ghost use Rattle.bitfield.specs.Bits.{has, put, joined, blank, every};
-ghost use Rattle.bitfield.specs.Walk.{next};
+ghost use Prim.Native.Nat.{_<_, _-_, _%_};
+ghost use lib.Bits.{bitAnd};
+ghost use lib.ListN.{getD, replicate};
+ghost use Rattle.bitfield.specs.Bits.{has, put, words, joined, blank, every};
+ghost use Rattle.bitfield.specs.Walk.{firstOf, next};
 
 // A bit that is set.
 pub struct Bit1 {
@@ -23,25 +23,37 @@ pub struct Step {
     pub left: [u64; 2],
 }
 
-// The bits at even and at odd positions of a word; position 0 is the highest.
+// A set bit of a word, and the word without it.
+struct First {
+    at: usize,
+    rest: u64,
+}
+
+// How many bits there are.
+const BITS: usize = 128;
+
+// A word without a bit.
+const NONE: u64 = 0;
+
+// The bits at even positions of a word, of which position 0 is the highest, and those at odd positions.
 const EVEN: u64 = 0xAAAAAAAAAAAAAAAA;
 
-const ODD: u64 = 0x5555555555555555;
+const ODD: u64 = EVEN >> 1;
 
 pub fn new() -> [u64; 2]
     ensures { λ r. ⌜ r ≡ replicate 2 0 ⌝ }
 {
-    [0u64; 2]
+    [NONE; 2]
 }
 
 // No bit at all: the Rust's empty vector. All-zero words, which the Rust's merge can make, weigh the same.
 pub fn is_blank(bits: [u64; 2]) -> bool
     ensures { λ r. ⌜ r ≡ blank bits ⌝ }
 {
-    if bits[0] != 0 {
+    if bits[0] != NONE {
         return false;
     }
-    bits[1] == 0
+    bits[1] == NONE
 }
 
 pub fn merge(bits: [u64; 2], other: [u64; 2]) -> [u64; 2]
@@ -50,15 +62,22 @@ pub fn merge(bits: [u64; 2], other: [u64; 2]) -> [u64; 2]
     [bits[0] | other[0], bits[1] | other[1]]
 }
 
+// A bit's value is 1 shifted by this.
+fn shift_of(position: usize) -> u32
+    ensures { λ r. ⌜ r ≡ 63 - position % 64 ⌝ }
+{
+    63 - (position % 64) as u32
+}
+
 // A case for each word: a word at a computed index would have to go through memory.
 pub fn set_bit(bits: [u64; 2], position: usize) -> [u64; 2]
     ensures { λ r. ⌜ r ≡ put bits position ⌝ }
 {
-    let value = 1u64 << (63 - position % 64);
+    let value = 1u64 << shift_of(position);
     if position < 64 {
         return [bits[0] | value, bits[1]];
     }
-    if position < 128 {
+    if position < BITS {
         return [bits[0], bits[1] | value];
     }
     bits
@@ -67,24 +86,31 @@ pub fn set_bit(bits: [u64; 2], position: usize) -> [u64; 2]
 pub fn test_bit(bits: [u64; 2], position: usize) -> bool
     ensures { λ r. ⌜ r ≡ has bits position ⌝ }
 {
-    if 128 <= position {
+    if BITS <= position {
         return false;
     }
     let word = bits[position / 64];
-    (word >> (63 - position % 64)) % 2 == 1
+    (word >> shift_of(position)) % 2 == 1
+}
+
+// The bits of a mask.
+fn iter1s(bits: [u64; 2], mask: u64) -> [u64; 2]
+    ensures { λ r. ⌜ r ≡ words 2 (λ i. bitAnd (getD bits i 0) mask) ⌝ }
+{
+    [bits[0] & mask, bits[1] & mask]
 }
 
 // The four walks of the Rust: each gives the words that `next` is to walk.
 pub fn iter1s_even(bits: [u64; 2]) -> [u64; 2]
     ensures { λ r. ⌜ r ≡ every 0 bits ⌝ }
 {
-    [bits[0] & EVEN, bits[1] & EVEN]
+    iter1s(bits, EVEN)
 }
 
 pub fn iter1s_odd(bits: [u64; 2]) -> [u64; 2]
     ensures { λ r. ⌜ r ≡ every 1 bits ⌝ }
 {
-    [bits[0] & ODD, bits[1] & ODD]
+    iter1s(bits, ODD)
 }
 
 pub fn iter1s_merged_even(bits: [u64; 2], other: [u64; 2]) -> [u64; 2]
@@ -99,40 +125,38 @@ pub fn iter1s_merged_odd(bits: [u64; 2], other: [u64; 2]) -> [u64; 2]
     iter1s_odd(merge(bits, other))
 }
 
-// The first set bit of a word that has one.
-fn first_of(word: u64) -> usize
+// The first set bit of a word that has one, and the rest of the word.
+fn first_of(word: u64) -> First
     requires { ⌜ 0 < word ⌝ }
-    ensures { λ r. ⌜ (r ≡ leadingZeros 64 word) × (r < 64) × (2 ^ (63 - r) ≤ word) ⌝ }
+    ensures { λ r. ⌜ (r ≡ firstOf word) × (r .at < 64) ⌝ }
 {
-    u64::leading_zeros(word) as usize
-}
-
-// A word without its bit `at`.
-fn rest_of(word: u64, at: usize) -> u64
-    requires { ⌜ (at < 64) × (2 ^ (63 - at) ≤ word) ⌝ }
-    ensures { λ r. ⌜ r ≡ word - 2 ^ (63 - at) ⌝ }
-{
-    word - (1u64 << (63 - at))
+    let at = u64::leading_zeros(word);
+    First {
+        at: at as usize,
+        rest: word - (1u64 << (63 - at)),
+    }
 }
 
 // One step of a walk.
 pub fn next(left: [u64; 2]) -> Step
     ensures { λ r. ⌜ r ≡ next left ⌝ }
 {
-    if left[0] != 0 {
-        let at = first_of(left[0]);
-        let rest = rest_of(left[0], at);
+    let first = left[0];
+    let second = left[1];
+    if first != NONE {
+        let one = first_of(first);
         return Step {
-            found: Found::At(Bit1 { position: at }),
-            left: [rest, left[1]],
+            found: Found::At(Bit1 { position: one.at }),
+            left: [one.rest, second],
         };
     }
-    if left[1] != 0 {
-        let at = first_of(left[1]);
-        let rest = rest_of(left[1], at);
+    if second != NONE {
+        let one = first_of(second);
         return Step {
-            found: Found::At(Bit1 { position: 64 + at }),
-            left: [left[0], rest],
+            found: Found::At(Bit1 {
+                position: 64 + one.at,
+            }),
+            left: [first, one.rest],
         };
     }
     Step {

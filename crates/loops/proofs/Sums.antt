@@ -90,17 +90,19 @@ sum-fewer m n f h =
     let e : n ≡ m + (n - m) = omega arith in
     rw e (omega (arith, sum-split m (n - m) f))
 
--- a place changes and the others stay
-pub sum-change : (n : ℕ) (f g : ℕ → ℕ) (p : ℕ) → p < n → ((k : ℕ) → k ≢ p → f k ≡ g k) → sum n f + g p ≡ sum n g + f p
+-- a place changes and the others below n stay
+pub sum-change-in : (n : ℕ) (f g : ℕ → ℕ) (p : ℕ) → p < n → ((k : ℕ) → k < n → k ≢ p → f k ≡ g k) → sum n f + g p ≡ sum n g + f p
 unfolding sum
-sum-change zero f g p h same = absurd (omega arith)
-sum-change (suc n) f g p h same = go (ℕ-discrete p n) (sum-change n f g p)
+sum-change-in zero f g p h same = absurd (omega arith)
+sum-change-in (suc n) f g p h same = go (ℕ-discrete p n) (sum-change-in n f g p)
   where
-    go : Dec (p ≡ n) → (p < n → ((k : ℕ) → k ≢ p → f k ≡ g k) → sum n f + g p ≡ sum n g + f p)
+    go : Dec (p ≡ n) → (p < n → ((k : ℕ) → k < n → k ≢ p → f k ≡ g k) → sum n f + g p ≡ sum n g + f p)
         → sum n f + f n + g p ≡ sum n g + g n + f p
-    go (yes e) r =
-        omega (arith, ap f e, ap g e, sum-cong n f g (λ k l. same k (λ q. omega arith)))
-    go (no e) r = omega (arith, r (omega arith) same, same n (λ q. omega arith))
+    go (yes e) r = omega (arith, ap f e, ap g e, sum-cong n f g (λ k l. same k (omega arith) (λ q. omega arith)))
+    go (no e) r = omega (arith, r (omega arith) (λ k l q. same k (omega arith) q), same n (omega arith) (λ q. omega arith))
+
+pub sum-change : (n : ℕ) (f g : ℕ → ℕ) (p : ℕ) → p < n → ((k : ℕ) → k ≢ p → f k ≡ g k) → sum n f + g p ≡ sum n g + f p
+sum-change n f g p h same = sum-change-in n f g p h (λ k l q. same k q)
 
 -- two places change places
 pub sum-swap : (n : ℕ) (f g : ℕ → ℕ) (i j : ℕ) → i < n → j < n → f i ≡ g j → f j ≡ g i → ((k : ℕ) → k ≢ i → k ≢ j → f k ≡ g k)
@@ -190,10 +192,10 @@ module _ (n : ℕ) (w : ℕ → ℕ) where
       parts false x = omega arith
 
   -- one place more
-  pub weigh-put : (s t : ℕ → Bool) (p : ℕ) → p < n → T (not (s p)) → T (t p) → ((k : ℕ) → k ≢ p → s k ≡ t k)
+  pub weigh-put-in : (s t : ℕ → Bool) (p : ℕ) → p < n → T (not (s p)) → T (t p) → ((k : ℕ) → k < n → k ≢ p → s k ≡ t k)
       → weigh n t w ≡ weigh n s w + w p
-  weigh-put s t p h out into same =
-      omega (arith, sum-change n _ _ p h (λ k q. ap (λ (b : Bool). cond b (w k) 0) (same k q)), held (t p) (w p) into, gone (s p) (w p) out)
+  weigh-put-in s t p h out into same =
+      omega (arith, sum-change-in n _ _ p h (λ k l q. ap (λ (b : Bool). cond b (w k) 0) (same k l q)), held (t p) (w p) into, gone (s p) (w p) out)
     where
       held : (a : Bool) (x : ℕ) → T a → cond a x 0 ≡ x
       held true x t = refl
@@ -202,3 +204,7 @@ module _ (n : ℕ) (w : ℕ → ℕ) where
       gone : (a : Bool) (x : ℕ) → T (not a) → cond a x 0 ≡ 0
       gone true x t = absurd t
       gone false x t = refl
+
+  pub weigh-put : (s t : ℕ → Bool) (p : ℕ) → p < n → T (not (s p)) → T (t p) → ((k : ℕ) → k ≢ p → s k ≡ t k)
+      → weigh n t w ≡ weigh n s w + w p
+  weigh-put s t p h out into same = weigh-put-in s t p h out into (λ k l q. same k q)

@@ -25,6 +25,21 @@ pub false-not : (b : Bool) → (T b → ⊥) → b ≡ false
 false-not true h = absurd (h tt)
 false-not false h = refl
 
+pub true-false : {b : Bool} → b ≡ true → b ≡ false → ⊥
+true-false s t = subst T t (T-true s)
+
+pub and-true : (b : Bool) → (b && true) ≡ b
+and-true true = refl
+and-true false = refl
+
+pub and-false : (b : Bool) → (b && false) ≡ false
+and-false true = refl
+and-false false = refl
+
+pub or-false : (b : Bool) → (b || false) ≡ b
+or-false true = refl
+or-false false = refl
+
 pub both : (a b : Bool) → T a → T b → T (a && b)
 both true b s t = t
 both false b s t = s
