@@ -10,8 +10,41 @@ use borrow.Author.Tests.{eq-eqb, le-leb, lt-leb, ne-eqb}
 use Rattle.loops.proofs.Tests.{by-test, decT}
 use Rattle.grandpa.specs.Tree.{below}
 use Rattle.grandpa.proofs.Trees.{below-refl, below-up, below-trans, below-le, below-antisym, below-line, below-step}
-use Rattle.graph.specs.Search.{hold-from, lead, hold, nearest-from, nearest}
+use Rattle.graph.specs.Search.{hold-from, lead, hold, until, nearest}
 use Rattle.graph.specs.Shape.{Holds}
+
+-- a climb takes as many steps as its place at most
+module _ (up : ℕ → ℕ) (falls : (k : ℕ) → up k ≤ pred k) (stop : ℕ → Bool) where
+  until-stays : (f at : ℕ) → at ≤ 0 → until up stop f at ≡ at
+  unfolding until
+  until-stays zero at h = refl
+  until-stays (suc f) at h = go (stop at) (until-stays f (up at) (omega (arith, falls at)))
+    where
+      go : (b : Bool) → until up stop f (up at) ≡ up at → cond b at (until up stop f (up at)) ≡ at
+      go true r = refl
+      go false r = omega (arith, r, falls at)
+
+  until-fuel : (f g at : ℕ) → at ≤ f → at ≤ g → until up stop f at ≡ until up stop g at
+  unfolding until
+  until-fuel zero g at h k = sym (until-stays g at h)
+  until-fuel (suc f) zero at h k = until-stays (suc f) at k
+  until-fuel (suc f) (suc g) at h k =
+      ap (λ (r : ℕ). cond (stop at) at r) (until-fuel f g (up at) (omega (arith, falls at)) (omega (arith, falls at)))
+
+  -- the turns of a climb
+  pub until-here : (at : ℕ) → stop at ≡ true → until up stop at at ≡ at
+  unfolding until
+  until-here zero e = refl
+  until-here (suc at) e = rw e
+
+  pub until-next : (at : ℕ) → 0 < at → stop at ≡ false → until up stop at at ≡ until up stop (up at) (up at)
+  unfolding until
+  until-next zero h e = absurd (omega arith)
+  until-next (suc at) h e = rw e (until-fuel at (up (suc at)) (up (suc at)) (omega (arith, falls (suc at))) (omega arith))
+
+  pub until-root : until up stop 0 0 ≡ 0
+  unfolding until
+  until-root = refl
 
 module _ (up : ℕ → ℕ) (falls : (k : ℕ) → up k ≤ pred k) (used : ℕ → Bool) where
   -- of two nodes on one line whose edges hold b there is one
@@ -134,13 +167,13 @@ module _ (up : ℕ → ℕ) (falls : (k : ℕ) → up k ≤ pred k) (used : ℕ 
     pub first : (y : ℕ) → T (used y) → T (below up y at) → T (below up y x)
 
   module _ (base : ℕ) (base-used : T (used base)) where
-    near : (f at : ℕ) → at ≤ f → T (below up base at) → Nearest at (nearest-from up used f at)
-    unfolding nearest-from
+    near : (f at : ℕ) → at ≤ f → T (below up base at) → Nearest at (until up used f at)
+    unfolding until
     near zero at h l =
         let e : base ≡ at = omega (arith, below-le up falls base at l) in
         record { is-node = subst (λ (x : ℕ). T (used x)) e base-used; above = below-refl up falls at; first = λ y v m. m }
     near (suc f) at h l =
-        by-test (Nearest at) (used at) at (nearest-from up used f (up at))
+        by-test (Nearest at) (used at) at (until up used f (up at))
         (λ u. record { is-node = u; above = below-refl up falls at; first = λ y v m. m })
         (λ u.
         let r = near f (up at) (omega (arith, falls at)) (below-step up falls base at l (other u base base-used)) in

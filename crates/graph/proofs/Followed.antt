@@ -14,9 +14,9 @@ use Rattle.loops.proofs.Listings.{times-keep, kept-in, in-kept}
 use Rattle.grandpa.specs.Tree.{below, child}
 use Rattle.grandpa.specs.Vote.{Vote}
 use Rattle.grandpa.proofs.Trees.{below-refl, below-up, below-trans, below-le, below-antisym, below-line, below-step, child-is, child-below}
-use Rattle.graph.specs.Search.{nearest}
+use Rattle.graph.specs.Search.{until, nearest}
 use Rattle.graph.specs.Graph.{Graph, children}
-use Rattle.graph.specs.Ghost.{under, towards-from, towards, following}
+use Rattle.graph.specs.Ghost.{under, towards, following}
 use Rattle.graph.specs.Shape.{Holds, Nodes}
 use Rattle.graph.proofs.Climbs.{Nearest, nearest-says}
 use Rattle.graph.proofs.Listed.{nearest-unique}
@@ -32,11 +32,11 @@ module _ (up : ℕ → ℕ) (falls : (k : ℕ) → up k ≤ pred k) where
   is-under b n l d = both (below up b n) _ l (not-T (eqb n b) (λ t. d (eqb→eq n b t)))
 
   -- the child of b towards n
-  towards-at : (b f at : ℕ) → at ≤ f → T (below up b at) → at ≢ b → T (child up b (towards-from up b f at)) × T (below up (towards-from up b f at) at)
-  unfolding towards-from
+  towards-at : (b f at : ℕ) → at ≤ f → T (below up b at) → at ≢ b → T (child up b (until up (λ x. eqb (up x) b) f at)) × T (below up (until up (λ x. eqb (up x) b) f at) at)
+  unfolding until
   towards-at b zero at h l d = absurd (omega (arith, below-le up falls b at l))
   towards-at b (suc f) at h l d =
-      by-test (λ (x : ℕ). T (child up b x) × T (below up x at)) (eqb (up at) b) at (towards-from up b f (up at))
+      by-test (λ (x : ℕ). T (child up b x) × T (below up x at)) (eqb (up at) b) at (until up (λ x. eqb (up x) b) f (up at))
       (λ e. (child-is up falls b at (omega (arith, below-le up falls b at l)) (eqb→eq (up at) b e), below-refl up falls at))
       (λ e.
       let r = towards-at b f (up at) (omega (arith, falls at)) (below-step up falls b at l (λ q. d (sym q)))

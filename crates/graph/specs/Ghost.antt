@@ -8,7 +8,7 @@ use lib.Dec.{eqb}
 use Rattle.loops.specs.Listing.{keep}
 use Rattle.grandpa.specs.Tree.{below}
 use Rattle.grandpa.specs.Answers.{first-of}
-use Rattle.graph.specs.Search.{containing, nearest}
+use Rattle.graph.specs.Search.{containing, until, nearest}
 use Rattle.graph.specs.Graph.{Graph, join-of, tally, children}
 
 -- a block is in the graph: it has a node, or a node's edge holds it
@@ -26,12 +26,8 @@ abbrev pub under : (ℕ → ℕ) → ℕ → ℕ → Bool
 under up b n = below up b n && not (eqb n b)
 
 -- the child of b towards a block strictly below it
-unfoldable pub towards-from : (ℕ → ℕ) → ℕ → ℕ → ℕ → ℕ
-towards-from up b zero at = at
-towards-from up b (suc f) at = cond (eqb (up at) b) at (towards-from up b f (up at))
-
 unfoldable pub towards : (ℕ → ℕ) → ℕ → ℕ → ℕ
-towards up b n = towards-from up b n n
+towards up b n = until up (λ x. eqb (up x) b) n n
 
 -- the first node that passes, or 0: place 0 is no child
 unfoldable pub first-in : (ℕ → Bool) → List ℕ → ℕ

@@ -28,10 +28,11 @@ note x xs = cond (eqb x 0) xs (cond (eqb (times x xs) 0) (xs ++ (x ∷ [])) xs)
 unfoldable pub containing : (ℕ → ℕ) → (ℕ → Bool) → List ℕ → ℕ → List ℕ
 containing up used heads b = fold (λ h l. note (hold up used b h) l) heads []
 
--- the nearest node at or above a block
-unfoldable pub nearest-from : (ℕ → ℕ) → (ℕ → Bool) → ℕ → ℕ → ℕ
-nearest-from up used zero at = at
-nearest-from up used (suc f) at = cond (used at) at (nearest-from up used f (up at))
+-- the first block that stops a climb from `at`; the root stops every climb
+unfoldable pub until : (ℕ → ℕ) → (ℕ → Bool) → ℕ → ℕ → ℕ
+until up stop zero at = at
+until up stop (suc f) at = cond (stop at) at (until up stop f (up at))
 
+-- the nearest node at or above a block
 unfoldable pub nearest : (ℕ → ℕ) → (ℕ → Bool) → ℕ → ℕ
-nearest up used at = nearest-from up used at at
+nearest up used at = until up used at at

@@ -1,0 +1,3 @@
+pub mod Climbs
+pub mod Lists
+pub mod Search
