@@ -19,6 +19,12 @@ pub struct Places {
     pub count: usize,
 }
 
+// A block, or none.
+pub enum Found {
+    At(u8),
+    Nothing,
+}
+
 // The two questions that the Rust asks by closures.
 pub enum Condition {
     AtLeast(u64),

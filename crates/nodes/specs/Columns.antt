@@ -1,0 +1,53 @@
+-- The vote graph in columns. Document 01, "Forms that must change": arrays with counts, kept in the Rust's order; "Shape
+-- rules": every node but the base listed once, under the nearest node above it; heads the nodes that list none.
+use mathlib.Core.Bool.{Bool, cond, not, _&&_}
+use mathlib.Core.List.{List, [], _∷_}
+use mathlib.Core.Option.{Option, none, some}
+use mathlib.Core.Path.{_≡_}
+use mathlib.Core.Logic.{_≢_}
+use Prim.Native.Nat.{ℕ, _≤_, _<_}
+use lib.Dec.{T, eqb}
+use lib.ListN.{getD, length}
+use Rattle.loops.specs.Listing.{front}
+use Rattle.columns.specs.Lists.{padded}
+use Rattle.graph.specs.Search.{nearest}
+use Rattle.graph.specs.Graph.{Graph}
+use Rattle.graph.specs.Shape.{Nodes}
+use Rattle.nodes.specs.Nodes.{col, flag, row, Falls}
+use Rattle.nodes.specs.declared.Found.{Found}
+use Rattle.nodes.specs.declared.Found.the-variants.{At, Nothing}
+
+-- the columns that a vote changes
+pub record Columns : Type 0 where
+  pub used : List Bool
+  pub above : List ℕ
+  pub rows : List (List ℕ)
+  pub order : List ℕ
+  pub listed : ℕ
+  pub heads : List ℕ
+  pub tips : ℕ
+
+-- the graph that they hold
+abbrev pub view : Columns → Graph
+view g = record { used = flag (g .used); bits = row (g .rows); order = front (g .listed) (g .order); heads = front (g .tips) (g .heads) }
+
+-- columns that keep the shape rules of a vote graph, on a table of `count` blocks by their parents and ids
+pub record Sound (parents ids : List ℕ) (base count : ℕ) (g : Columns) : Type 0 where
+  pub parents-fall : Falls parents
+  pub above-falls : Falls (g .above)
+  pub nodes : Nodes (col parents) (col ids) base count (flag (g .used)) (front (g .listed) (g .order)) (front (g .tips) (g .heads))
+  pub small : count ≤ 256
+  pub tied : (x : ℕ) → T (flag (g .used) x) → x ≢ base → col (g .above) x ≡ nearest (col parents) (flag (g .used)) (col parents x)
+  pub listed-fits : g .listed ≤ 256
+  pub tips-fit : g .tips ≤ 256
+  pub used-size : length (g .used) ≡ 256
+  pub above-size : length (g .above) ≡ 256
+  pub rows-size : length (g .rows) ≡ 256
+  pub row-size : (x : ℕ) → x < 256 → length (row (g .rows) x) ≡ 2
+  pub order-clear : g .order ≡ padded 256 (front (g .listed) (g .order))
+  pub heads-clear : g .heads ≡ padded 256 (front (g .tips) (g .heads))
+
+-- an answer as the code gives it
+abbrev pub as-found : Option ℕ → Found
+as-found none = Nothing
+as-found (some x) = At x
