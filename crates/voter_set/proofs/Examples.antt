@@ -14,7 +14,7 @@ use Rattle.voter_set.specs.declared.Lookup.the-variants.{Voter, Outside}
 use Rattle.voter_set.specs.declared.Nth.the-variants.{Place, Beyond}
 use Rattle.voter_set.specs.Voters.{enter, voters, weight-of, new}
 use Rattle.voter_set.specs.Lookup.{info, look-up, get, has, nth, nth-mod}
-use Rattle.voter_set.specs.Good.{rising, non-zero, blank, sound, good}
+use Rattle.voter_set.specs.Good.{rising, non-zero, blank, placed, sound, good}
 
 -- a zero weight is skipped, equal ids are summed, ids rise
 gathered : voters (5 ∷ 3 ∷ 9 ∷ 3 ∷ []) (1 ∷ 2 ∷ 0 ∷ 40 ∷ []) 4 ≡ record { id = 3; weight = 42 } ∷ record { id = 5; weight = 1 } ∷ []
@@ -65,5 +65,5 @@ shaped : (good (new (2 ∷ 1 ∷ []) (5 ∷ 6 ∷ []) .voters) ≡ true)
     × (sound (padded 64 (2 ∷ 1 ∷ [])) (padded 64 (6 ∷ 5 ∷ [])) 2 8 11 ≡ false)
     × (sound (padded 64 (1 ∷ 2 ∷ [])) (padded 64 (11 ∷ 0 ∷ [])) 2 8 11 ≡ false)
     × (sound (padded 64 (1 ∷ 2 ∷ [])) (padded 64 (6 ∷ 5 ∷ [])) 2 8 12 ≡ false)
-unfolding new voters enter sum padded sound rising non-zero blank all
+unfolding new voters enter sum padded sound placed rising non-zero blank all
 shaped = (refl, refl, refl, refl)

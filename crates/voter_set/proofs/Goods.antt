@@ -17,7 +17,7 @@ use Rattle.loops.proofs.Sums.{sum-short}
 use Rattle.grandpa.specs.Weight.{threshold}
 use Rattle.voter_set.specs.declared.VoterSet.{VoterSet}
 use Rattle.voter_set.specs.Voters.{total-of}
-use Rattle.voter_set.specs.Good.{rising, non-zero, blank, sound, good, Good}
+use Rattle.voter_set.specs.Good.{rising, non-zero, blank, placed, sound, good, Good}
 
 module _ (column : List ℕ) (n : ℕ) where
   rising-step : T (rising column n) → (k : ℕ) → suc k < n → getD column k 0 < getD column (suc k) 0
@@ -82,7 +82,7 @@ module _ (column : List ℕ) (n : ℕ) where
 
 module _ (s : VoterSet) where
   pub good-means : good s ≡ true → Good s
-  unfolding sound
+  unfolding sound placed
   good-means e =
       let t : T (good s) = T-true e in
       let a : length (s .ids) ≡ 64 = eqb→eq _ _ (search (left-of, right-of)) in
@@ -101,7 +101,7 @@ module _ (s : VoterSet) where
       }
 
   pub means-good : Good s → good s ≡ true
-  unfolding sound
+  unfolding sound placed
   means-good g =
       let u : s .total ≡ total-of (s .weights) = rw (g .weights-sized) (g .total-is) in
       rw (

@@ -7,8 +7,8 @@ use Prim.Native.Nat.{ℕ, _≤_, _<_, _%_}
 use native.Mathlib.Decide.{ℕ-discrete}
 use native.Mathlib.Nat.{mod-lt}
 use native.Mathlib.Omega.{arith}
-use lib.Dec.{eqb→eq}
-use lib.ListN.{length, getD}
+use lib.Dec.{ltb, eqb→eq}
+use lib.ListN.{length, getD, List·getD-eq-default}
 use borrow.Author.Tests.{lt-ltb, le-ltb, eq-eqb, ne-eqb}
 use Rattle.columns.specs.declared.Found.{Found}
 use Rattle.columns.specs.declared.Found.the-variants.{At, Nothing}
@@ -48,6 +48,10 @@ pub look-up-at : (ids weights : List ℕ) (n x k : ℕ) → find ids n x ≡ At 
 unfolding look-up
 look-up-at ids weights n x k e = rw e
 
+pub look-up-short : (ids weights : List ℕ) (n x k : ℕ) → find ids n x ≡ At k → length weights ≤ k → look-up ids weights n x ≡ Outside
+look-up-short ids weights n x k e h =
+    look-up-at ids weights n x k e ∙ info-zero k (getD weights k 0) (List·getD-eq-default weights 0 h)
+
 pub look-up-nothing : (ids weights : List ℕ) (n x : ℕ) → find ids n x ≡ Nothing → look-up ids weights n x ≡ Outside
 unfolding look-up
 look-up-nothing ids weights n x e = rw e
@@ -55,6 +59,14 @@ look-up-nothing ids weights n x e = rw e
 pub nth-beyond : (s : VoterSet) (n : ℕ) → s .count ≤ n → nth s n ≡ Beyond
 unfolding nth
 nth-beyond s n h = rw (le-ltb n (s .count) h)
+
+pub nth-short : (s : VoterSet) (n : ℕ) → length (s .weights) ≤ n → nth s n ≡ Beyond
+unfolding nth
+nth-short s n h = rw (info-zero n (getD (s .weights) n 0) (List·getD-eq-default (s .weights) 0 h)) (go (ltb n (s .count)))
+  where
+    go : (b : Bool) → cond b Beyond Beyond ≡ Beyond
+    go true = refl
+    go false = refl
 
 -- an id that the voter at place k has, and one that none has
 pub record Known (s : VoterSet) (x k : ℕ) : Type 0 where

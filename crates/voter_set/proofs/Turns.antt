@@ -18,7 +18,7 @@ use Rattle.loops.proofs.Sums.{sum-fewer, sum-more}
 use Rattle.weights.specs.Weights.{most}
 use Rattle.voter_set.specs.declared.Total.the-variants as total
 use Rattle.voter_set.specs.Voters.{total-of}
-use Rattle.voter_set.specs.Steps.{summed, Placed}
+use Rattle.voter_set.specs.Steps.{summed, Spot}
 use Rattle.voter_set.specs.Good.{rising, non-zero, blank}
 
 module _ (column : List ℕ) where
@@ -72,7 +72,7 @@ over weights k h l =
     omega (arith, sum-fewer (k + 1) (length weights) (λ j. getD weights j 0) (omega arith), sum-more k (λ j. getD weights j 0))
 
 -- a search from the end that meets a lesser id, and one that does not
-pub placed-here : (ids : List ℕ) (n i r : ℕ) → 0 < r → r ≤ n → getD ids (r - 1) 0 < i → ((k : ℕ) → r ≤ k → k < n → i ≤ getD ids k 0) → Placed ids n i r
+pub placed-here : (ids : List ℕ) (n i r : ℕ) → 0 < r → r ≤ n → getD ids (r - 1) 0 < i → ((k : ℕ) → r ≤ k → k < n → i ≤ getD ids k 0) → Spot ids n i r
 placed-here ids n i r h l b f =
     record { inside = l; below = λ k e. subst (λ (j : ℕ). getD ids j 0 < i) (pred k e) b; above = f }
   where
@@ -87,7 +87,7 @@ placed-down ids n i r h b f k l m = go (ℕ-discrete (r - 1) k)
     go (yes e) = subst (λ (j : ℕ). i ≤ getD ids j 0) e b
     go (no e) = f k (omega arith) m
 
-pub placed-none : (ids : List ℕ) (n i r : ℕ) → r ≤ 0 → ((k : ℕ) → r ≤ k → k < n → i ≤ getD ids k 0) → Placed ids n i 0
+pub placed-none : (ids : List ℕ) (n i r : ℕ) → r ≤ 0 → ((k : ℕ) → r ≤ k → k < n → i ≤ getD ids k 0) → Spot ids n i 0
 placed-none ids n i r h f =
     record { inside = omega arith; below = λ k e. absurd (omega arith); above = λ k l m. f k (omega arith) m }
 

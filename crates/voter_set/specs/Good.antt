@@ -23,12 +23,16 @@ non-zero column n = all n (λ k. not (eqb (getD column k 0) 0))
 unfoldable pub blank : List ℕ → ℕ → ℕ → Bool
 blank column n size = all size (λ k. ltb k n || eqb (getD column k 0) 0)
 
--- of columns, a count, a threshold and a total
+-- counts within sizes, ids rising, weights non-zero, unused places 0
+unfoldable pub placed : List ℕ → List ℕ → ℕ → Bool
+placed ids weights count =
+    eqb (length ids) 64 && (eqb (length weights) 64 && (leb count 64
+    && (rising ids count && (non-zero weights count && (blank ids count 64 && blank weights count 64)))))
+
+-- and total and T as above
 unfoldable pub sound : List ℕ → List ℕ → ℕ → ℕ → ℕ → Bool
 sound ids weights count t total =
-    eqb (length ids) 64 && (eqb (length weights) 64 && (leb count 64
-    && (rising ids count && (non-zero weights count && (blank ids count 64 && (blank weights count 64
-    && (eqb total (total-of weights) && eqb t (threshold total))))))))
+    placed ids weights count && (eqb total (total-of weights) && eqb t (threshold total))
 
 abbrev pub good : VoterSet → Bool
 good s = sound (s .ids) (s .weights) (s .count) (s .threshold) (s .total)
