@@ -1,5 +1,5 @@
 -- Votes and contexts by `voted`: what a vote's bit is, who counts after an equivocation, and what a set's good column gives.
-use mathlib.Core.Bool.{Bool, _&&_, _||_}
+use mathlib.Core.Bool.{Bool, true, _&&_, _||_}
 use mathlib.Core.List.{List}
 use mathlib.Core.Path.{_≡_, refl, sym, ap, _∙_}
 use Prim.Native.Nat.{ℕ, _+_, _-_, _*_, _^_, _≤_, _<_, min}
@@ -11,7 +11,7 @@ use Rattle.loops.proofs.Tests.{or-false}
 use Rattle.loops.proofs.Sums.{sum-short}
 use Rattle.weights.specs.Weights.{most}
 use Rattle.voter_set.specs.declared.VoterSet.{VoterSet}
-use Rattle.bitfield.specs.Bits.{put}
+use Rattle.bitfield.specs.Bits.{put, blank}
 use Rattle.bitfield.proofs.Sets.{put-past}
 use Rattle.context.specs.declared.Phase.{Phase}
 use Rattle.context.specs.declared.Phase.the-variants.{Prevote, Precommit}
@@ -19,7 +19,7 @@ use Rattle.context.specs.declared.VoteNode.{VoteNode}
 use Rattle.context.specs.declared.Context.{Context}
 use Rattle.context.specs.Votes.{bit, voted, weightOf, heardIn}
 use Rattle.context.specs.Context.{vote, opened, with-node, with-vote, with-equivocator, counts}
-use Rattle.context.proofs.Votes.{same-phase, voted-none, voted-joined, voted-put, exact, weigh-voters}
+use Rattle.context.proofs.Votes.{same-phase, voted-none, voted-blank, voted-joined, voted-put, exact, weigh-voters}
 
 -- the vote of a voter of the set has the bit of its place
 pub vote-bit : (phase : Phase) (place : ℕ) → place < 2 ^ 63 → vote phase place .bit .position ≡ bit phase place
@@ -39,6 +39,11 @@ module _ (node : VoteNode) (two : length (node .bits) ≡ 2) where
   pub voted-with-node : (more : VoteNode) → length (more .bits) ≡ 2 → (phase : Phase) (q : ℕ)
       → voted (with-node node more .bits) phase q ≡ (voted (node .bits) phase q || voted (more .bits) phase q)
   voted-with-node more e phase q = voted-joined phase q (node .bits) (more .bits) (two ∙ sym e)
+
+-- no equivocator counts in a blank set: the Rust asks this first and leaves the joining out
+pub counts-blank : (c : Context) → blank (c .equivocations) ≡ true → (node : VoteNode) (phase : Phase) (q : ℕ)
+    → counts c node phase q ≡ voted (node .bits) phase q
+counts-blank c h node phase q = rw (voted-blank phase q (c .equivocations) h) (or-false (voted (node .bits) phase q))
 
 -- nobody has equivocated in a new context
 pub counts-opened : (voters : VoterSet) (node : VoteNode) (phase : Phase) (q : ℕ) → counts (opened voters) node phase q ≡ voted (node .bits) phase q
