@@ -1,16 +1,15 @@
 -- One word: which bits `or`, `and`, a power of two and a difference have, and that a word is its bits.
 use mathlib.Core.Bool.{Bool, true, false, not, _&&_, _||_}
 use mathlib.Core.Path.{_≡_, refl, sym, ap, _∙_}
-use mathlib.Core.Logic.{_≢_}
 use Prim.Native.Nat.{ℕ, zero, suc, _+_, _-_, _*_, _/_, _%_, _^_, _≤_, _<_, min, max}
-use native.Mathlib.Nat.{one-mul, zero-mul, div-eq-of-lt, mod-lt}
+use native.Mathlib.Nat.{one-mul, div-eq-of-lt, mod-lt}
 use native.Mathlib.Decide.{ℕ-discrete, decLt}
 use native.Mathlib.Omega.{arith}
 use borrow.Author.Tests.{eq-eqb, ne-eqb}
-use lib.Arith.{digits-mod, digits-div}
+use lib.Arith.{digits-mod}
 use lib.Bits.{bitAnd, bitOr, and-shr, and-step, or-shr, or-step, or-shifted-r, or-block, or-zero-r}
-use lib.Dec.{T, eqb, eqb→eq}
-use lib.Pow.{pow-pos, pow-lt, pow-mono, pow-add, shl-shr, shl-exact, shr-shr, high, split}
+use lib.Dec.{eqb, eqb→eq}
+use lib.Pow.{pow-pos, pow-lt, pow-add, shl-shr, shl-exact, shr-shr, high, split}
 use Rattle.loops.proofs.Tests.{T-true, true-false, and-true, or-false}
 use Rattle.bitfield.specs.Bits.{inWord}
 

@@ -1,6 +1,6 @@
 -- Worked examples: four voters of weight 1, 2, 3 and 4; prevotes of places 0 and 2, a precommit of place 1, place 3 equivocating
 -- in the prevotes.
-use mathlib.Core.Bool.{Bool, true, false, _&&_, _||_}
+use mathlib.Core.Bool.{true, false, _||_}
 use mathlib.Core.List.{List, [], _∷_}
 use mathlib.Core.Path.{_≡_, refl}
 use Prim.Native.Nat.{ℕ, _^_}

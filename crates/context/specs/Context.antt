@@ -10,7 +10,7 @@ use Rattle.context.specs.declared.Phase.{Phase}
 use Rattle.context.specs.declared.Vote.{Vote}
 use Rattle.context.specs.declared.VoteNode.{VoteNode}
 use Rattle.context.specs.declared.Context.{Context}
-use Rattle.context.specs.Votes.{bit, voted, weightOf}
+use Rattle.context.specs.Votes.{bit, voted}
 
 -- the vote of the voter at a place: its bit, and where no number of the machine is as large, the largest; both lie past the
 -- words, where nothing is set
