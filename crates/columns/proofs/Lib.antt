@@ -1,1 +1,3 @@
 pub mod Finds
+pub mod Padded
+pub mod Examples

@@ -1,1 +1,2 @@
 pub mod Find
+pub mod Lists

@@ -1,7 +1,7 @@
 // Columns of numbers: arrays lent as slices, of which the first `count` places are used.
 ghost use mathlib.Core.Path.{_≡_};
 ghost use Prim.Native.Nat.{_+_, _-_, _≤_, min};
-ghost use lib.ListN.{length, getD};
+ghost use lib.ListN.{length};
 ghost use Rattle.loops.specs.Loop.{first};
 ghost use Rattle.loops.specs.All.{any};
 ghost use Rattle.columns.specs.declared.Found.the-variants.{At, Nothing};
@@ -11,17 +11,6 @@ ghost use Rattle.columns.specs.Find.{used, is-at, find, contains};
 pub enum Found {
     At(usize),
     Nothing,
-}
-
-// The number at a place, 0 past the end.
-pub fn get(column: &[u32], place: usize) -> u32
-    ensures { λ r. ⌜ r ≡ getD (now (column .entry)) place 0 ⌝ }
-{
-    if place < column.len() {
-        column[place]
-    } else {
-        0
-    }
 }
 
 // The first used place where x stands.

@@ -1,16 +1,16 @@
 -- Votes and contexts by `voted`: what a vote's bit is, who counts after an equivocation, and what a set's good column gives.
 use mathlib.Core.Bool.{Bool, true, _&&_, _||_}
 use mathlib.Core.List.{List}
-use mathlib.Core.Path.{_≡_, refl, sym, ap, _∙_}
-use Prim.Native.Nat.{ℕ, _+_, _-_, _*_, _^_, _≤_, _<_}
+use mathlib.Core.Path.{_≡_, refl, sym, _∙_}
+use Prim.Native.Nat.{ℕ, _*_, _^_, _≤_, _<_}
 use native.Mathlib.Omega.{arith}
 use lib.Dec.{eqb}
 use lib.ListN.{length, getD}
-use Rattle.loops.specs.Sum.{sum, weigh}
+use Rattle.loops.specs.Sum.{weigh}
 use Rattle.loops.proofs.Tests.{or-false}
-use Rattle.loops.proofs.Sums.{sum-short}
 use Rattle.weights.specs.Weights.{most}
 use Rattle.voter_set.specs.declared.VoterSet.{VoterSet}
+use Rattle.voter_set.specs.Good.{Good}
 use Rattle.bitfield.specs.Bits.{put, blank}
 use Rattle.bitfield.proofs.Sets.{put-past}
 use Rattle.context.specs.declared.Phase.{Phase}
@@ -54,14 +54,11 @@ pub voted-equivocator : (c : Context) → length (c .equivocations) ≡ 2 → (p
 voted-equivocator c two phase place h other q =
     rw (vote-bit phase place (omega arith)) (voted-put (c .equivocations) phase place (omega arith) other q)
 
--- in a set whose weights have a total that fits and are 0 past the voters, weights are sums over the voters
-pub weight-good : (weights : List ℕ) (count : ℕ) → count ≤ 64 → ((p : ℕ) → count ≤ p → getD weights p 0 ≡ 0)
-    → sum count (λ p. getD weights p 0) ≤ most → (s : ℕ → Bool) → weightOf weights s ≡ weigh count s (λ p. getD weights p 0)
-weight-good weights count h none fits s =
-    let e : 64 ≡ count + (64 - count) = omega arith in
-    let all : sum 64 (λ p. getD weights p 0) ≡ sum count (λ p. getD weights p 0)
-    = ap (λ (n : ℕ). sum n (λ p. getD weights p 0)) e ∙ sum-short count (64 - count) _ none in
-    exact weights (omega arith) s ∙ weigh-voters weights count h none s
+-- in a good set, whose total fits a weight, weights are sums over the voters
+pub weight-good : (vs : VoterSet) → Good vs → vs .total ≤ most → (s : ℕ → Bool)
+    → weightOf (vs .weights) s ≡ weigh (vs .count) s (λ p. getD (vs .weights) p 0)
+weight-good vs g fits s =
+    exact (vs .weights) (omega (arith, g .total-is)) s ∙ weigh-voters (vs .weights) (vs .count) (g .few) (g .no-weight) s
 
 -- voters heard are a sum too
 pub heard-sum : (bits : List ℕ) (phase : Phase) → heardIn bits phase ≡ weigh 64 (voted bits phase) (λ p. 1)

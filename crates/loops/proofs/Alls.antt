@@ -77,6 +77,10 @@ module _ (p : ℕ → Bool) where
   unfolding any
   any-more n = rw add-one
 
+  pub all-next : (n : ℕ) → (p n && all n p) ≡ all (n + 1) p
+  unfolding all
+  all-next n = rw add-one
+
 -- tests that agree below n agree
 pub all-cong : (n : ℕ) (p q : ℕ → Bool) → ((k : ℕ) → k < n → p k ≡ q k) → all n p ≡ all n q
 unfolding all

@@ -7,7 +7,8 @@ use native.Mathlib.Numerals.{add-one}
 use native.Mathlib.Nat.{add-zero, add-suc}
 use native.Mathlib.Decide.{ℕ-discrete}
 use native.Mathlib.Omega.{arith}
-use lib.Dec.{T}
+use lib.Dec.{T, eqb}
+use borrow.Author.Tests.{eq-eqb, ne-eqb}
 use Rattle.loops.specs.Sum.{sum, weigh}
 
 pub sum-none : (f : ℕ → ℕ) → sum 0 f ≡ 0
@@ -48,6 +49,22 @@ sum-at (suc n) f k h = go (ℕ-discrete k n) (sum-at n f k)
     go (yes e) r = omega (arith, ap f e)
     go (no e) r = omega (arith, r (omega arith))
 
+-- a sum that is not 0 has a place that is not
+pub sum-some : (n : ℕ) (f : ℕ → ℕ) → 0 < sum n f → (k : ℕ) × (k < n) × (0 < f k)
+unfolding sum
+sum-some zero f h = absurd (omega arith)
+sum-some (suc n) f h = go (ℕ-discrete (f n) 0) (sum-some n f)
+  where
+    go : Dec (f n ≡ 0) → (0 < sum n f → (k : ℕ) × (k < n) × (0 < f k)) → (k : ℕ) × (k < suc n) × (0 < f k)
+    go (yes e) r = let s = r (omega arith) in (s .0, omega (arith, s .1), s .2)
+    go (no e) r = (n, omega arith, omega arith)
+
+-- the first place and the rest
+pub sum-first : (n : ℕ) (f : ℕ → ℕ) → sum (suc n) f ≡ f 0 + sum n (λ k. f (suc k))
+unfolding sum
+sum-first zero f = omega arith
+sum-first (suc n) f = omega (arith, sum-first n f)
+
 -- the first n places and m more
 pub sum-split : (n m : ℕ) (f : ℕ → ℕ) → sum (n + m) f ≡ sum n f + sum m (λ k. f (n + k))
 unfolding sum
@@ -57,6 +74,12 @@ sum-split n (suc m) f = rw (add-suc n m) (omega (arith, sum-split n m f))
 -- the places below n that a sum over more of them counts, where the rest are 0
 pub sum-short : (n m : ℕ) (f : ℕ → ℕ) → ((k : ℕ) → n ≤ k → f k ≡ 0) → sum (n + m) f ≡ sum n f
 sum-short n m f h = omega (arith, sum-split n m f, sum-zero m (λ k. f (n + k)) (λ k l. h (n + k) (omega arith)))
+
+-- fewer places sum to at most as much
+pub sum-fewer : (m n : ℕ) (f : ℕ → ℕ) → m ≤ n → sum m f ≤ sum n f
+sum-fewer m n f h =
+    let e : n ≡ m + (n - m) = omega arith in
+    rw e (omega (arith, sum-split m (n - m) f))
 
 -- two places at a time
 pub sum-pairs : (n : ℕ) (f : ℕ → ℕ) → sum (2 * n) f ≡ sum n (λ k. f (2 * k) + f (2 * k + 1))
@@ -80,6 +103,41 @@ sum-change-in (suc n) f g p h same = go (ℕ-discrete p n) (sum-change-in n f g 
 
 pub sum-change : (n : ℕ) (f g : ℕ → ℕ) (p : ℕ) → p < n → ((k : ℕ) → k ≢ p → f k ≡ g k) → sum n f + g p ≡ sum n g + f p
 sum-change n f g p h same = sum-change-in n f g p h (λ k l q. same k q)
+
+-- two places change places
+pub sum-swap : (n : ℕ) (f g : ℕ → ℕ) (i j : ℕ) → i < n → j < n → f i ≡ g j → f j ≡ g i → ((k : ℕ) → k ≢ i → k ≢ j → f k ≡ g k)
+    → sum n f ≡ sum n g
+sum-swap n f g i j a b p q same = go (ℕ-discrete i j)
+  where
+    half : ℕ → ℕ
+    half k = cond (eqb k i) (g i) (f k)
+
+    half-at : half i ≡ g i
+    half-at = rw (eq-eqb i i refl)
+
+    half-off : (k : ℕ) → k ≢ i → half k ≡ f k
+    half-off k h = rw (ne-eqb k i h)
+
+    go : Dec (i ≡ j) → sum n f ≡ sum n g
+    go (yes e) = sum-cong n f g (λ k l. at k (ℕ-discrete k i))
+      where
+        at : (k : ℕ) → Dec (k ≡ i) → f k ≡ g k
+        at k (yes d) = ap f d ∙ p ∙ ap g (sym e) ∙ ap g (sym d)
+        at k (no d) = same k d (λ r. d (r ∙ sym e))
+    go (no e) =
+        omega (
+          arith,
+          sum-change n f half i a (λ k h. sym (half-off k h)),
+          sum-change n half g j b (λ k h. rest k h (ℕ-discrete k i)),
+          half-at,
+          half-off j (λ r. e (sym r)),
+          p,
+          q,
+        )
+      where
+        rest : (k : ℕ) → k ≢ j → Dec (k ≡ i) → half k ≡ g k
+        rest k h (yes d) = ap half d ∙ half-at ∙ ap g (sym d)
+        rest k h (no d) = half-off k d ∙ same k d h
 
 module _ (n : ℕ) (w : ℕ → ℕ) where
   pub weigh-cong : (s t : ℕ → Bool) → ((k : ℕ) → k < n → s k ≡ t k) → weigh n s w ≡ weigh n t w

@@ -36,6 +36,11 @@ look-up ids weights count id = on-found (find ids count id) (λ k. info k (getD 
 abbrev pub get : VoterSet → ℕ → Lookup
 get s id = look-up (s .ids) (s .weights) (s .count) id
 
+-- the weight that an answer tells, none for an id outside the set
+abbrev pub told : Lookup → ℕ
+told (Voter v) = v .weight .0
+told Outside = 0
+
 abbrev pub has : VoterSet → ℕ → Bool
 has s id = contains (s .ids) (s .count) id
 

@@ -1,5 +1,5 @@
 use mathlib.Core.Path.{sym, _∙_}
-use Rattle.voter_set.specs.Lookup.{look-up}
+use Rattle.voter_set.proofs.Lookups.{look-up-at, look-up-short, look-up-nothing}
 use borrow.Author.Needs.{needs}
 use Rattle.voter_set.proofs.look_up.Statement.{statement}
 use Rattle.voter_set.proofs.look_up.Tie as tie
@@ -7,37 +7,42 @@ use Rattle.voter_set.proofs.look_up.Reads as reads
 use Rattle.voter_set.proofs.look_up.Lts as lts
 use Rattle.columns.proofs.find.Reads as find-reads
 use Rattle.voter_set.proofs.info.Reads as info-reads
-use Rattle.voter_set.proofs.weight_at.Reads as weight-at-reads
 
--- src/lib.rt:160:28
+-- src/lib.rt:174:28
 find-requires : tie.Need-find-requires
 find-requires c κs = search needs
 
--- src/lib.rt:160:19
+-- src/lib.rt:174:19
 enum-known-place : tie.Need-enum-known-place
 enum-known-place c = search needs
 
--- src/lib.rt:161:9
+-- src/lib.rt:175:9
 enum-told : tie.Need-enum-told
 enum-told c = search needs
 
--- src/lib.rt:161:9
+-- src/lib.rt:175:9
 returns : tie.Need-returns
-unfolding look-up
-returns c = rw (sym (c .before .before .find .ensures) ∙ c .enum-told .given .1)
+returns c = sym (look-up-nothing _ (c .before .before .before .before .before .args .weights .now) _ _ (sym (c .before .before .find .ensures) ∙ c .enum-told .given .1))
 
--- src/lib.rt:163:17
-weight-at-requires : tie.Need-weight-at-requires
-weight-at-requires c κs = search needs
+-- src/lib.rt:178:9
+returns-2 : tie.Need-returns-2
+returns-2 c = sym (look-up-short _ (c .before .before .before .before .before .before .before .args .weights .now) _ _ _ (sym (c .before .before .before .before .find .ensures) ∙ c .before .before .place .given .1) (c .if1 .taken))
 
--- src/lib.rt:163:5
+-- src/lib.rt:180:17
+mul-info : tie.Need-mul-info
+mul-info c = search needs
+
+-- src/lib.rt:180:17
+shared-slice-read-info : tie.Need-shared-slice-read-info
+shared-slice-read-info c = search needs
+
+-- src/lib.rt:180:5
 info-requires : tie.Need-info-requires
 info-requires c κs = search needs
 
--- src/lib.rt:157:1
-returns-2 : tie.Need-returns-2
-unfolding look-up
-returns-2 c = rw (sym (c .before .before .before .before .before .find .ensures) ∙ c .before .before .before .place .given .1, c .info .ensures, c .before .weight-at .ensures)
+-- src/lib.rt:171:1
+returns-3 : tie.Need-returns-3
+returns-3 c = c .info .ensures ∙ sym (look-up-at _ (c .before .before .before .before .before .before .before .before .before .args .weights .now) _ _ _ (sym (c .before .before .before .before .before .before .find .ensures) ∙ c .before .before .before .before .place .given .1))
 
 pub look-up-spec : {M : Type 1} → statement M
 look-up-spec =
@@ -47,6 +52,8 @@ look-up-spec =
     enum-known-place
     enum-told
     returns
-    weight-at-requires
+    returns-2
+    mul-info
+    shared-slice-read-info
     info-requires
-    returns-2)
+    returns-3)

@@ -15,8 +15,8 @@ unfolding nth-mod
 returns c = sym (nth-beyond (c .before .before .args .self) _ (omega (arith, c .if1 .taken)))
 
 -- src/lib.rt:112:18
-rem-nth : tie.Need-rem-nth
-rem-nth c = search needs
+rem-place : tie.Need-rem-place
+rem-place c = search needs
 
 -- src/lib.rt:112:9
 nth-requires : tie.Need-nth-requires
@@ -28,4 +28,4 @@ unfolding nth-mod
 returns-2 c = search needs
 
 pub nth-mod-spec : {M : Type 1} → statement M
-nth-mod-spec = tie.close (tie.spec returns rem-nth nth-requires returns-2)
+nth-mod-spec = tie.close (tie.spec returns rem-place nth-requires returns-2)
