@@ -1,5 +1,5 @@
 -- Worked examples of the definitions.
-use mathlib.Core.Bool.{true, false, _&&_}
+use mathlib.Core.Bool.{true, false}
 use mathlib.Core.List.{List, [], _∷_}
 use mathlib.Core.Path.{_≡_, refl}
 use Prim.Native.Nat.{ℕ, _^_}
@@ -7,7 +7,7 @@ use Rattle.loops.specs.All.{all}
 use Rattle.loops.specs.Loop.{first}
 use Rattle.loops.specs.Sum.{sum}
 use Rattle.bitfield.specs.Bits.{inWord, has, put, words, joined, blank, mask, every}
-use Rattle.bitfield.specs.Walk.{cut, next, walk, passing}
+use Rattle.bitfield.specs.Walk.{cut, next, walk}
 
 none : List ℕ
 none = 0 ∷ 0 ∷ []

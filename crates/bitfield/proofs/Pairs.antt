@@ -1,5 +1,5 @@
 -- Two words as the code writes them.
-use mathlib.Core.Bool.{Bool, true, false, _&&_}
+use mathlib.Core.Bool.{false}
 use mathlib.Core.List.{List, [], _∷_}
 use mathlib.Core.Path.{_≡_, refl, ap, _∙_, subst}
 use mathlib.Core.Logic.{_≢_}
@@ -16,8 +16,8 @@ use Rattle.loops.specs.Sum.{sum}
 use Rattle.loops.proofs.Tests.{and-true, and-false}
 use Rattle.bitfield.specs.declared.Found.the-variants.{Nothing, At}
 use Rattle.bitfield.specs.declared.Step.{Step}
-use Rattle.bitfield.specs.Bits.{inWord, has, put, words, joined, blank, mask, every}
-use Rattle.bitfield.specs.Walk.{cut, next}
+use Rattle.bitfield.specs.Bits.{put, words, joined, blank, mask, every}
+use Rattle.bitfield.specs.Walk.{next}
 use Rattle.bitfield.proofs.Sets.{blank-none}
 use Rattle.bitfield.proofs.Walks.{found, top, cut-at, next-word, next-none}
 

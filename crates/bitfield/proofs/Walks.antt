@@ -11,7 +11,7 @@ use borrow.Author.Tests.{eq-eqb, ne-eqb}
 use lib.Arith.{bin-ind}
 use lib.Bits.{bitAnd, and-block, and-self, and-shifted}
 use lib.Count.{leadingZeros, leading-top, leading-unique}
-use lib.Dec.{T, eqb, eqb→eq}
+use lib.Dec.{T, eqb}
 use lib.ListN.{length, getD, set, length-set}
 use lib.Pow.{pow-pos, pow-mono, shl-shr, high}
 use lib.Seq.{getD-set-same, getD-set-other}

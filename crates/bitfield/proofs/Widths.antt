@@ -1,14 +1,14 @@
 -- The facts on sets of bits, gathered over the number of words. The code has two words; one and three are two more uses.
-use mathlib.Core.Bool.{Bool, true, false, _&&_, _||_}
+use mathlib.Core.Bool.{false, _&&_, _||_}
 use mathlib.Core.List.{List}
 use mathlib.Core.Path.{_≡_, sym, _∙_}
 use Prim.Native.Nat.{ℕ, _*_, _%_, _≤_, _<_}
 use native.Mathlib.Omega.{arith}
 use lib.Dec.{eqb}
 use lib.ListN.{length, replicate}
-use Rattle.bitfield.specs.Bits.{has, put, joined, blank, every}
+use Rattle.bitfield.specs.Bits.{has, put, joined, every}
 use Rattle.bitfield.specs.Walk.{walk, passing}
-use Rattle.bitfield.proofs.Sets.{Fits, length-put, length-joined, has-past, has-put, put-past, has-joined, has-none, put-fits, joined-fits, set-ext}
+use Rattle.bitfield.proofs.Sets.{Fits, length-put, length-joined, has-past, has-put, put-past, has-joined, has-none, set-ext}
 use Rattle.bitfield.proofs.Walks.{walk-every, walk-merged}
 
 pub record SetsOf (n : ℕ) : Type 0 where

@@ -1,16 +1,15 @@
 -- One word: which bits `or`, `and`, a power of two and a difference have, and that a word is its bits.
 use mathlib.Core.Bool.{Bool, true, false, not, _&&_, _||_}
 use mathlib.Core.Path.{_≡_, refl, sym, ap, _∙_}
-use mathlib.Core.Logic.{_≢_}
 use Prim.Native.Nat.{ℕ, zero, suc, _+_, _-_, _*_, _/_, _%_, _^_, _≤_, _<_, min, max}
-use native.Mathlib.Nat.{one-mul, zero-mul, div-eq-of-lt, mod-lt}
+use native.Mathlib.Nat.{one-mul, div-eq-of-lt, mod-lt}
 use native.Mathlib.Decide.{ℕ-discrete, decLt}
 use native.Mathlib.Omega.{arith}
 use borrow.Author.Tests.{eq-eqb, ne-eqb}
-use lib.Arith.{digits-mod, digits-div}
+use lib.Arith.{digits-mod}
 use lib.Bits.{bitAnd, bitOr, and-shr, and-step, or-shr, or-step, or-shifted-r, or-block, or-zero-r}
-use lib.Dec.{T, eqb, eqb→eq}
-use lib.Pow.{pow-pos, pow-lt, pow-mono, pow-add, shl-shr, shl-exact, shr-shr, high, split}
+use lib.Dec.{eqb, eqb→eq}
+use lib.Pow.{pow-pos, pow-lt, pow-add, shl-shr, shl-exact, shr-shr, high, split}
 use Rattle.loops.proofs.Tests.{T-true, true-false, and-true, or-false}
 use Rattle.bitfield.specs.Bits.{inWord}
 
@@ -21,24 +20,17 @@ below k w h = div-eq-of-lt h
 pub shl-one : (k : ℕ) → k < 64 → (1 * 2 ^ k) % 2 ^ 64 ≡ 2 ^ k
 shl-one k h = shl-exact {a = 1} 1 k 64 (omega arith) (omega arith) ∙ one-mul (2 ^ k)
 
--- digits, which are below 2
-pub digit-or : (x y : ℕ) → x < 2 → y < 2 → eqb (max x y) 1 ≡ (eqb x 1 || eqb y 1)
-digit-or zero zero h k = refl
-digit-or zero (suc zero) h k = refl
-digit-or zero (suc (suc y)) h k = absurd (omega arith)
-digit-or (suc zero) zero h k = refl
-digit-or (suc zero) (suc zero) h k = refl
-digit-or (suc zero) (suc (suc y)) h k = absurd (omega arith)
-digit-or (suc (suc x)) y h k = absurd (omega arith)
-
-pub digit-and : (x y : ℕ) → x < 2 → y < 2 → eqb (min x y) 1 ≡ (eqb x 1 && eqb y 1)
-digit-and zero zero h k = refl
-digit-and zero (suc zero) h k = refl
-digit-and zero (suc (suc y)) h k = absurd (omega arith)
-digit-and (suc zero) zero h k = refl
-digit-and (suc zero) (suc zero) h k = refl
-digit-and (suc zero) (suc (suc y)) h k = absurd (omega arith)
-digit-and (suc (suc x)) y h k = absurd (omega arith)
+-- an operation on digits, which are below 2, as one on tests
+digit-op : (f : ℕ → ℕ → ℕ) (g : Bool → Bool → Bool)
+    → eqb (f 0 0) 1 ≡ g false false → eqb (f 0 1) 1 ≡ g false true → eqb (f 1 0) 1 ≡ g true false → eqb (f 1 1) 1 ≡ g true true
+    → (x y : ℕ) → x < 2 → y < 2 → eqb (f x y) 1 ≡ g (eqb x 1) (eqb y 1)
+digit-op f g p q r s zero zero h k = p
+digit-op f g p q r s zero (suc zero) h k = q
+digit-op f g p q r s zero (suc (suc y)) h k = absurd (omega arith)
+digit-op f g p q r s (suc zero) zero h k = r
+digit-op f g p q r s (suc zero) (suc zero) h k = s
+digit-op f g p q r s (suc zero) (suc (suc y)) h k = absurd (omega arith)
+digit-op f g p q r s (suc (suc x)) y h k = absurd (omega arith)
 
 pub inWord-or : (a c b : ℕ) → inWord (bitOr a c) b ≡ (inWord a b || inWord c b)
 unfolding inWord
@@ -46,7 +38,7 @@ inWord-or a c b =
     let k = 63 - b in
     let e : bitOr a c / 2 ^ k % 2 ≡ max (a / 2 ^ k % 2) (c / 2 ^ k % 2)
     = ap (λ (n : ℕ). n % 2) (or-shr a c k ∙ or-step (a / 2 ^ k) (c / 2 ^ k)) ∙ digits-mod (bitOr (a / 2 ^ k / 2) (c / 2 ^ k / 2)) (omega arith) in
-    ap (λ (n : ℕ). eqb n 1) e ∙ digit-or (a / 2 ^ k % 2) (c / 2 ^ k % 2) (omega arith) (omega arith)
+    ap (λ (n : ℕ). eqb n 1) e ∙ digit-op max _||_ refl refl refl refl (a / 2 ^ k % 2) (c / 2 ^ k % 2) (omega arith) (omega arith)
 
 pub inWord-and : (a c b : ℕ) → inWord (bitAnd a c) b ≡ (inWord a b && inWord c b)
 unfolding inWord
@@ -54,7 +46,7 @@ inWord-and a c b =
     let k = 63 - b in
     let e : bitAnd a c / 2 ^ k % 2 ≡ min (a / 2 ^ k % 2) (c / 2 ^ k % 2)
     = ap (λ (n : ℕ). n % 2) (and-shr a c k ∙ and-step (a / 2 ^ k) (c / 2 ^ k)) ∙ digits-mod (bitAnd (a / 2 ^ k / 2) (c / 2 ^ k / 2)) (omega arith) in
-    ap (λ (n : ℕ). eqb n 1) e ∙ digit-and (a / 2 ^ k % 2) (c / 2 ^ k % 2) (omega arith) (omega arith)
+    ap (λ (n : ℕ). eqb n 1) e ∙ digit-op min _&&_ refl refl refl refl (a / 2 ^ k % 2) (c / 2 ^ k % 2) (omega arith) (omega arith)
 
 -- a word below 2^(63 - b) doesn't reach bit b
 pub inWord-low : (w b : ℕ) → w < 2 ^ (63 - b) → inWord w b ≡ false

@@ -30,7 +30,7 @@ words (suc n) f = f 0 ∷ words n (λ i. f (suc i))
 unfoldable pub joined : List ℕ → List ℕ → List ℕ
 joined a b = words (length a) (λ i. bitOr (getD a i 0) (getD b i 0))
 
--- no bit at all. Empty and all-zero weigh alike ("Porting order", 3): here the words are always there, and blank is all-zero.
+-- no bit at all. "Porting order", 3: empty and all-zero weigh alike; here the words are always there, and blank is all-zero
 unfoldable pub blank : List ℕ → Bool
 blank ws = all (length ws) (λ i. eqb (getD ws i 0) 0)
 

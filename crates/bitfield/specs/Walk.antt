@@ -36,7 +36,7 @@ unfoldable pub walk : ℕ → List ℕ → List ℕ
 walk zero ws = []
 walk (suc f) ws = visit (next ws .found) (walk f (next ws .left))
 
--- the places that pass a test, rising: f of them, from k on
+-- of the f places from k on those that pass a test, rising
 unfoldable pub passing : (ℕ → Bool) → ℕ → ℕ → List ℕ
 passing p zero k = []
 passing p (suc f) k = cond (p k) (k ∷ passing p f (suc k)) (passing p f (suc k))

@@ -46,7 +46,7 @@ pub fn new() -> [u64; 2]
     [NONE; 2]
 }
 
-// No bit at all: the Rust's empty vector. All-zero words, which the Rust's merge can make, weigh the same.
+// No bit at all: the Rust's empty vector. Empty and all-zero weigh alike, and here there is only all-zero.
 pub fn is_blank(bits: [u64; 2]) -> bool
     ensures { λ r. ⌜ r ≡ blank bits ⌝ }
 {

@@ -1,2 +1,5 @@
 pub mod Votes
 pub mod Sums
+pub mod Contexts
+pub mod Table
+pub mod Examples

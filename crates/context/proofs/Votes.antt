@@ -1,9 +1,8 @@
 -- `voted` under each way to make a set of votes, and the weights of such sets. The layers above need only these.
-use mathlib.Core.Bool.{Bool, true, false, cond, not, _&&_, _||_}
+use mathlib.Core.Bool.{Bool, true, false, cond, _&&_, _||_}
 use mathlib.Core.List.{List}
 use mathlib.Core.Path.{_≡_, refl, sym, ap, _∙_, subst}
-use mathlib.Core.Logic.{_≢_}
-use Prim.Native.Nat.{ℕ, zero, suc, _+_, _-_, _*_, _/_, _%_, _^_, _≤_, _<_, min}
+use Prim.Native.Nat.{ℕ, zero, suc, _+_, _-_, _*_, _/_, _%_, _≤_, _<_, min}
 use native.Mathlib.Omega.{arith}
 use borrow.Author.Tests.{eq-eqb, ne-eqb}
 use lib.Dec.{T, eqb, eqb→eq}
@@ -16,7 +15,7 @@ use Rattle.bitfield.specs.Bits.{has, put, joined, blank}
 use Rattle.bitfield.proofs.Sets.{Fits, has-past, has-none, has-put, has-joined, blank-none, length-put, put-fits, set-ext}
 use Rattle.context.specs.declared.Phase.{Phase}
 use Rattle.context.specs.declared.Phase.the-variants.{Prevote, Precommit}
-use Rattle.context.specs.Votes.{offset, bit, voted, weightOf, heardIn}
+use Rattle.context.specs.Votes.{offset, bit, voted, weightOf}
 
 abbrev pub same-phase : Phase → Phase → Bool
 same-phase a b = eqb (offset a) (offset b)

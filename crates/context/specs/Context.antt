@@ -1,5 +1,6 @@
 -- Document 01, "Porting order", 4: weight with equivocators joined in. What the calls make of nodes, votes and equivocators.
 use mathlib.Core.Bool.{Bool, _||_}
+use mathlib.Core.List.{List}
 use Prim.Native.Nat.{ℕ, min}
 use lib.ListN.{replicate}
 use Rattle.weights.specs.Weights.{most}
@@ -9,15 +10,19 @@ use Rattle.context.specs.declared.Phase.{Phase}
 use Rattle.context.specs.declared.Vote.{Vote}
 use Rattle.context.specs.declared.VoteNode.{VoteNode}
 use Rattle.context.specs.declared.Context.{Context}
-use Rattle.context.specs.Votes.{bit, voted, weightOf}
+use Rattle.context.specs.Votes.{bit, voted}
 
 -- the vote of the voter at a place: its bit, and where no number of the machine is as large, the largest; both lie past the
 -- words, where nothing is set
 abbrev pub vote : Phase → ℕ → Vote
 vote phase place = record { bit = record { position = min (bit phase place) most } }
 
+-- two words without a bit
+abbrev pub none : List ℕ
+none = replicate 2 0
+
 abbrev pub no-votes : VoteNode
-no-votes = record { bits = replicate 2 0 }
+no-votes = record { bits = none }
 
 abbrev pub with-node : VoteNode → VoteNode → VoteNode
 with-node node other = record { bits = joined (node .bits) (other .bits) }
@@ -26,7 +31,7 @@ abbrev pub with-vote : VoteNode → Vote → VoteNode
 with-vote node v = record { bits = put (node .bits) (v .bit .position) }
 
 abbrev pub opened : VoterSet → Context
-opened voters = record { voters = voters; equivocations = replicate 2 0 }
+opened voters = record { voters = voters; equivocations = none }
 
 abbrev pub with-equivocator : Context → Phase → ℕ → Context
 with-equivocator c phase place =

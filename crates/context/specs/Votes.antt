@@ -1,9 +1,9 @@
 -- Document 01, "Weights and bits". Votes as bits, over any number of words; weights over the 64 places of "Sizes".
-use mathlib.Core.Bool.{Bool, _||_}
+use mathlib.Core.Bool.{Bool}
 use mathlib.Core.List.{List}
 use Prim.Native.Nat.{ℕ, _+_, _*_, min}
 use lib.ListN.{getD}
-use Rattle.loops.specs.Sum.{sum, weigh}
+use Rattle.loops.specs.Sum.{weigh}
 use Rattle.weights.specs.Weights.{most}
 use Rattle.bitfield.specs.Bits.{has}
 use Rattle.context.specs.declared.Phase.{Phase}

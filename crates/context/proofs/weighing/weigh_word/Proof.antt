@@ -1,9 +1,8 @@
 use borrow.Author.Needs.{needs}
 use mathlib.Core.Path.{_≡_, refl}
-use Prim.Native.Nat.{_+_, _-_, _/_, _^_, _≤_, _<_}
+use Prim.Native.Nat.{_+_, _/_, _^_, _≤_, _<_}
 use native.Mathlib.Omega.{arith}
-use lib.Bits.{bitAnd, and-le-l}
-use lib.Count.{leading-le}
+use lib.Bits.{and-le-l}
 use lib.ListN.{getD}
 use Rattle.loops.specs.Sum.{sum, weigh}
 use Rattle.weights.specs.Weights.{most, plus}
