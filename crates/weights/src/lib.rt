@@ -38,6 +38,12 @@ fn saturating_sub(a: u64, b: u64) -> u64
     if b <= a { a - b } else { 0 }
 }
 
+fn same(a: u64, b: u64) -> bool
+    ensures { λ r. ⌜ r ≡ eqb a b ⌝ }
+{
+    a == b
+}
+
 fn cmp(a: u64, b: u64) -> Ordering
     ensures { λ r. ⌜ r ≡ compared a b ⌝ }
 {
@@ -96,13 +102,13 @@ impl VoteWeight {
     pub fn eq(self, other: VoteWeight) -> bool
         ensures { λ r. ⌜ r ≡ eqb (self .0) (other .0) ⌝ }
     {
-        self.0 == other.0
+        same(self.0, other.0)
     }
 
     pub fn eq_voter(self, other: VoterWeight) -> bool
         ensures { λ r. ⌜ r ≡ eqb (self .0) (other .0) ⌝ }
     {
-        self.0 == other.0
+        same(self.0, other.0)
     }
 }
 
@@ -119,13 +125,14 @@ impl VoterWeight {
     pub fn get(self) -> u64
         ensures { λ r. ⌜ r ≡ self .0 ⌝ }
     {
-        self.0
+        let number = self.0;
+        number
     }
 
     pub fn eq(self, other: VoterWeight) -> bool
         ensures { λ r. ⌜ r ≡ eqb (self .0) (other .0) ⌝ }
     {
-        self.0 == other.0
+        same(self.0, other.0)
     }
 
     pub fn sub(self, rhs: VoteWeight) -> VoteWeight
