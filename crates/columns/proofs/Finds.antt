@@ -1,12 +1,11 @@
 -- What `find` and `contains` mean.
 use mathlib.Core.Bool.{Bool, true, false, _||_}
 use mathlib.Core.List.{List}
-use mathlib.Core.Path.{_≡_, refl, sym, _∙_, subst}
+use mathlib.Core.Path.{_≡_, refl, subst}
 use mathlib.Core.Logic.{_⊎_, inl, inr}
-use Prim.Native.Nat.{ℕ, _+_, _-_, _≤_, _<_, min}
+use Prim.Native.Nat.{ℕ, _+_, _-_, _≤_, _<_}
 use native.Mathlib.Omega.{arith}
-use native.Mathlib.Nat.{add-zero}
-use lib.Dec.{T, eqb, eqb→eq, eqb-refl}
+use lib.Dec.{T, eqb→eq}
 use lib.ListN.{length, getD}
 use borrow.Author.Tests.{eq-eqb}
 use Rattle.loops.specs.Loop.{first}
@@ -14,7 +13,6 @@ use Rattle.loops.specs.All.{any}
 use Rattle.loops.proofs.Tests.{T-true, true-T, false-not}
 use Rattle.loops.proofs.Alls.{any-at, any-intro}
 use Rattle.loops.proofs.Firsts.{Least, first-cases, first-least, first-none, first-skip}
-use Rattle.columns.specs.declared.Found.{Found}
 use Rattle.columns.specs.declared.Found.the-variants.{At, Nothing}
 use Rattle.columns.specs.Find.{used, is-at, find, contains}
 

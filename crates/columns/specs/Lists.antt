@@ -1,5 +1,5 @@
 -- A list in a column. Document 01, "Forms that must change": arrays with counts; "Shape rules": unused places 0.
-use mathlib.Core.List.{List, [], _∷_, _++_}
+use mathlib.Core.List.{List, _++_}
 use Prim.Native.Nat.{ℕ, zero, suc, _-_}
 use lib.ListN.{length, getD, set, replicate}
 

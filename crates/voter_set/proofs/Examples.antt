@@ -1,6 +1,6 @@
 -- Worked examples of the definitions, with document 01's "Numbers to hold it to".
 use mathlib.Core.Bool.{true, false}
-use mathlib.Core.List.{List, [], _∷_, _++_}
+use mathlib.Core.List.{List, [], _∷_}
 use mathlib.Core.Path.{_≡_, refl}
 use Prim.Native.Nat.{ℕ, zero, suc}
 use lib.ListN.{replicate}

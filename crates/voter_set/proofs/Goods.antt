@@ -1,20 +1,18 @@
 -- What the test of the shape rules means.
-use mathlib.Core.Bool.{Bool, true, false, not, _&&_, _||_}
+use mathlib.Core.Bool.{true, _||_}
 use mathlib.Core.List.{List}
-use mathlib.Core.Path.{_≡_, refl, sym, ap, _∙_, subst}
+use mathlib.Core.Path.{_≡_, ap, _∙_, subst}
 use mathlib.Core.Logic.{_⊎_, inl, inr}
 use Prim.Native.Nat.{ℕ, zero, suc, _+_, _-_, _≤_, _<_}
 use native.Mathlib.Decide.{decLe, ℕ-discrete}
 use native.Mathlib.Omega.{arith}
-use lib.Dec.{T, eqb, leb, ltb, eqb→eq, leb→le, ltb→lt, T-not, not-T}
+use lib.Dec.{T, eqb, ltb, eqb→eq, leb→le, ltb→lt, T-not, not-T}
 use lib.ListN.{length, getD, List·getD-eq-default}
-use borrow.Author.Tests.{eq-eqb, ne-eqb, le-leb, lt-ltb, le-ltb}
-use Rattle.loops.specs.All.{all}
+use borrow.Author.Tests.{eq-eqb, le-leb, lt-ltb}
+use Rattle.loops.proofs.Tests.{T-true, true-T, left-of, right-of, in-left, in-right, either}
 use Rattle.loops.specs.Sum.{sum}
-use Rattle.loops.proofs.Tests.{T-true, true-T, both, left-of, right-of, in-left, in-right, either}
 use Rattle.loops.proofs.Alls.{all-at, all-intro}
 use Rattle.loops.proofs.Sums.{sum-short}
-use Rattle.grandpa.specs.Weight.{threshold}
 use Rattle.voter_set.specs.declared.VoterSet.{VoterSet}
 use Rattle.voter_set.specs.Voters.{total-of}
 use Rattle.voter_set.specs.Good.{rising, non-zero, blank, placed, sound, good, Good}
@@ -115,3 +113,19 @@ module _ (s : VoterSet) where
         eq-eqb _ _ u,
       )
       (eq-eqb _ _ (g .threshold-is))
+
+  -- the unused places add nothing to the total
+  pub total-used : Good s → s .total ≡ sum (s .count) (λ k. getD (s .weights) k 0)
+  total-used g =
+      let e : 64 ≡ s .count + (64 - s .count) = omega (arith, g .few) in
+      g .total-is ∙ ap (λ (n : ℕ). sum n (λ k. getD (s .weights) k 0)) e
+      ∙ sum-short (s .count) (64 - s .count) (λ k. getD (s .weights) k 0) (g .no-weight)
+
+  -- an id has one place
+  pub one-place : Good s → (j k : ℕ) → j < s .count → k < s .count → getD (s .ids) j 0 ≡ getD (s .ids) k 0 → j ≡ k
+  one-place g j k h l e = go (ℕ-discrete j k) (decLe j k)
+    where
+      go : Dec (j ≡ k) → Dec (j ≤ k) → j ≡ k
+      go (yes q) d = q
+      go (no q) (yes d) = absurd (omega (arith, g .ids-rise j k (omega arith) l))
+      go (no q) (no d) = absurd (omega (arith, g .ids-rise k j (omega arith) h))

@@ -2,7 +2,7 @@
 use mathlib.Core.Bool.{Bool, true, false, cond}
 use mathlib.Core.List.{List}
 use mathlib.Core.Path.{_≡_, refl, sym, ap, _∙_, subst}
-use mathlib.Core.Logic.{_⊎_, inl, inr, _≢_}
+use mathlib.Core.Logic.{_⊎_, inl, inr}
 use Prim.Native.Nat.{ℕ, _≤_, _<_, _%_}
 use native.Mathlib.Decide.{ℕ-discrete}
 use native.Mathlib.Nat.{mod-lt}
@@ -13,14 +13,10 @@ use borrow.Author.Tests.{lt-ltb, le-ltb, eq-eqb, ne-eqb}
 use Rattle.columns.specs.declared.Found.{Found}
 use Rattle.columns.specs.declared.Found.the-variants.{At, Nothing}
 use Rattle.columns.specs.Find.{used, find}
-use Rattle.columns.proofs.Finds.{find-at, find-nothing, at-find, nothing-find, at-contains, contains-find, contains-nothing}
-use Rattle.loops.proofs.Tests.{true-T}
-use Rattle.weights.specs.Weights.{kept}
+use Rattle.columns.proofs.Finds.{find-at, find-nothing, at-find, nothing-find, contains-find, contains-nothing}
 use Rattle.voter_set.specs.declared.VoterSet.{VoterSet}
 use Rattle.voter_set.specs.declared.VoterInfo.{VoterInfo}
-use Rattle.voter_set.specs.declared.Lookup.{Lookup}
 use Rattle.voter_set.specs.declared.Lookup.the-variants.{Voter, Outside}
-use Rattle.voter_set.specs.declared.Nth.{Nth}
 use Rattle.voter_set.specs.declared.Nth.the-variants.{Place, Beyond}
 use Rattle.voter_set.specs.Lookup.{info, look-up, get, has, nth, nth-mod}
 use Rattle.voter_set.specs.Good.{Good}

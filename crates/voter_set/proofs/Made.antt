@@ -1,9 +1,9 @@
 -- What `new` answers, and what a set that it makes holds.
 use mathlib.Core.Bool.{Bool, true, false, cond}
-use mathlib.Core.List.{List, [], _∷_}
-use mathlib.Core.Path.{_≡_, refl, sym, ap, _∙_, subst}
+use mathlib.Core.List.{List, []}
+use mathlib.Core.Path.{_≡_, refl, sym, ap, _∙_}
 use mathlib.Core.Logic.{_⊎_, inl, inr, _≢_}
-use Prim.Native.Nat.{ℕ, zero, suc, _+_, _-_, _≤_, _<_}
+use Prim.Native.Nat.{ℕ, _≤_, _<_}
 use native.Mathlib.Decide.{decLe, ℕ-discrete}
 use native.Mathlib.Omega.{arith}
 use lib.Dec.{T, eqb, eqb→eq}
@@ -14,9 +14,7 @@ use Rattle.loops.proofs.Sums.{sum-cong, sum-at, sum-some}
 use Rattle.columns.specs.Lists.{padded}
 use Rattle.columns.proofs.Padded.{length-padded, get-padded}
 use Rattle.weights.specs.Weights.{most}
-use Rattle.grandpa.specs.Weight.{threshold}
 use Rattle.voter_set.specs.declared.NewVoterSet.{NewVoterSet}
-use Rattle.voter_set.specs.declared.Answer.{Answer}
 use Rattle.voter_set.specs.declared.Answer.the-variants.{Made, Refused}
 use Rattle.voter_set.specs.Voters.{Pair, voters, weight-of, ids-of, weights-of, laid, no-voters, refused, total-of, new}
 use Rattle.voter_set.specs.Steps.{Rising}

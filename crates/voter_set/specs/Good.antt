@@ -16,6 +16,7 @@ use Rattle.voter_set.specs.Voters.{total-of}
 unfoldable pub rising : List ℕ → ℕ → Bool
 rising column n = all n (λ k. eqb k 0 || ltb (getD column (k - 1) 0) (getD column k 0))
 
+-- none of the first n numbers is 0
 unfoldable pub non-zero : List ℕ → ℕ → Bool
 non-zero column n = all n (λ k. not (eqb (getD column k 0) 0))
 

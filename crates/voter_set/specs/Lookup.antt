@@ -11,7 +11,6 @@ use Rattle.weights.specs.declared.NewVoterWeight.{NewVoterWeight}
 use Rattle.weights.specs.declared.NewVoterWeight.the-variants.{Zero, Weight}
 use Rattle.weights.specs.Weights.{kept}
 use Rattle.voter_set.specs.declared.VoterSet.{VoterSet}
-use Rattle.voter_set.specs.declared.VoterInfo.{VoterInfo}
 use Rattle.voter_set.specs.declared.Lookup.{Lookup}
 use Rattle.voter_set.specs.declared.Lookup.the-variants.{Voter, Outside}
 use Rattle.voter_set.specs.declared.Nth.{Nth}

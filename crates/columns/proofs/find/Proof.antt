@@ -1,4 +1,3 @@
-use mathlib.Core.Path.{sym, _∙_}
 use Rattle.columns.specs.Find.{find}
 use borrow.Author.Needs.{needs}
 use Rattle.columns.proofs.find.Statement.{statement}

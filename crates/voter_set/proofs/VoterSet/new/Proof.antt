@@ -1,7 +1,5 @@
-use mathlib.Core.Path.{_≡_, sym, _∙_}
-use native.Mathlib.Omega.{arith}
+use mathlib.Core.Path.{sym, _∙_}
 use borrow.Author.Tests.{eq-eqb, ne-eqb, lt-ltb, le-ltb}
-use lib.ListN.{length}
 use Rattle.voter_set.specs.Voters.{new, total-of}
 use Rattle.voter_set.proofs.Turns.{summed-over, summed-fits}
 use borrow.Author.Needs.{needs}

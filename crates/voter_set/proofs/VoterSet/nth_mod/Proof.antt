@@ -1,4 +1,4 @@
-use mathlib.Core.Path.{sym, _∙_}
+use mathlib.Core.Path.{sym}
 use native.Mathlib.Omega.{arith}
 use Rattle.voter_set.proofs.Lookups.{nth-beyond}
 use Rattle.voter_set.specs.Lookup.{nth-mod}
