@@ -1,2 +1,3 @@
 pub mod Shapes
 pub mod Climbs
+pub mod Adds

@@ -48,10 +48,13 @@ appended t id above =
       count = t .count + 1;
     }
 
+abbrev pub placed : BlockTable → ℕ → ℕ → Added
+placed t id above = record { answer = Placed (t .count); table = appended t id above }
+
 unfoldable pub append : BlockTable → ℕ → ℕ → Added
 append t id above =
     cond (eqb (getD (t .numbers) above 0) 4294967295) (refused t 7)
-    (cond (eqb (t .count) 256) (refused t 8) (record { answer = Placed (t .count); table = appended t id above }))
+    (cond (eqb (t .count) 256) (refused t 8) (placed t id above))
 
 -- on a table that keeps the shape
 unfoldable pub step : BlockTable → ℕ → ℕ → Added
