@@ -25,8 +25,24 @@ use Rattle.block_table.specs.declared.Answer.the-variants.{Placed, Refus
 use Rattle.block_table.specs.declared.Added.{Added}
 use Rattle.block_table.specs.Shape.{up, view, blocks, tabled, Stands, Shaped}
 use Rattle.block_table.specs.Add.{
-  opened, as-place, place-of, on-place, refused, appended, placed, append, step, add, counted, Due, breaks-the-shape, already-there, no-parent,
-  last-number, full, room
+  opened,
+  as-place,
+  place-of,
+  on-place,
+  refused,
+  appended,
+  placed,
+  append,
+  step,
+  add,
+  counted,
+  Due,
+  breaks-the-shape,
+  already-there,
+  no-parent,
+  last-number,
+  full,
+  room,
 }
 use Rattle.block_table.proofs.Shapes.{means, meant}
 
@@ -139,7 +155,7 @@ opened-shaped root number =
       distinct = λ id j k p q. omega (arith, p .inside, q .inside);
       ids-clear = after root;
       numbers-clear = after number;
-      parents-clear = λ k h. zeros k
+      parents-clear = λ k h. zeros k;
     }
   where
     zeros : (k : ℕ) → getD {A = ℕ} (replicate 256 0) k 0 ≡ 0
@@ -201,7 +217,7 @@ module _ (t : BlockTable) (s : Shaped t) (id above : ℕ) (under : above < t .co
         distinct = λ x j k p q. apart x j k p q (ℕ-discrete j (t .count)) (ℕ-discrete k (t .count));
         ids-clear = λ k h. same-id k (λ q. omega arith) ∙ s .ids-clear k (omega arith);
         numbers-clear = λ k h. same-number-at k (λ q. omega arith) ∙ s .numbers-clear k (omega arith);
-        parents-clear = λ k h. same-parent k (λ q. omega arith) ∙ s .parents-clear k (omega arith)
+        parents-clear = λ k h. same-parent k (λ q. omega arith) ∙ s .parents-clear k (omega arith);
       }
     where
       earlier : (x k : ℕ) → Stands (appended t id above) x k → k ≢ t .count → Stands t x k
@@ -223,7 +239,7 @@ module _ (t : BlockTable) (s : Shaped t) (id above : ℕ) (under : above < t .co
       record {
         more = omega arith;
         same-up = λ k h. sym (same-parent k (λ q. omega arith));
-        same-number = λ k h. sym (same-number-at k (λ q. omega arith))
+        same-number = λ k h. sym (same-number-at k (λ q. omega arith));
       }
 
   -- what stood stands, and the new block is the last, under its parent
@@ -280,6 +296,11 @@ module _ (t : BlockTable) (s : Shaped t) (id parent : ℕ) where
   stepped-refused n (refuses m) e = refl
   stepped-refused n (places above p f l) e = absurd (let z : _≡_ {A = ℕ} 0 1 = cc in omega arith)
 
+  stepped-placed : {a : Added} (k : ℕ) → Stepped t id parent a → a .answer ≡ Placed k
+      → (k ≡ t .count) × (above : ℕ) × Stands t parent above × ((j : ℕ) → Stands t id j → ⊥) × (t .count < 256) × (a .table ≡ appended t id above)
+  stepped-placed k (refuses m) e = absurd (let z : _≡_ {A = ℕ} 0 1 = cc in omega arith)
+  stepped-placed k (places above p f l) e = (cc, above, p, f, l, refl)
+
   pub step-keeps : Shaped (step t id parent .table)
   step-keeps = stepped-shaped stepped
 
@@ -288,6 +309,12 @@ module _ (t : BlockTable) (s : Shaped t) (id parent : ℕ) where
 
   pub step-refused : (n : ℕ) → step t id parent .answer ≡ Refused n → step t id parent .table ≡ t
   step-refused n e = stepped-refused n stepped e
+
+  -- a placed block is the last, and new, under a parent that stands
+  pub step-placed : (k : ℕ) → step t id parent .answer ≡ Placed k
+      → (k ≡ t .count)
+      × (above : ℕ) × Stands t parent above × ((j : ℕ) → Stands t id j → ⊥) × (t .count < 256) × (step t id parent .table ≡ appended t id above)
+  step-placed k e = stepped-placed k stepped e
 
 -- the same of any table
 module _ (t : BlockTable) (id parent : ℕ) where

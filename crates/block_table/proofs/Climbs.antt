@@ -4,9 +4,11 @@ use mathlib.Core.List.{List}
 use mathlib.Core.Path.{_≡_, refl, sym, ap, _∙_}
 use Prim.Native.Nat.{ℕ, zero, suc, pred, _+_, _-_, _≤_, _<_}
 use native.Mathlib.Omega.{arith}
-use lib.Dec.{T, eqb}
+use lib.Dec.{T, eqb, eqb→eq}
 use lib.ListN.{getD}
+use Rattle.loops.proofs.Tests.{T-true, true-T}
 use Rattle.grandpa.specs.Tree.{Tabled, climb, below}
+use Rattle.grandpa.proofs.Trees.{steps-below, climb-reaches, below-at}
 use Rattle.block_table.specs.Shape.{up, view}
 use Rattle.block_table.specs.Ask.{climbed}
 
@@ -29,3 +31,18 @@ module _ (parents numbers : List ℕ) where
         let q = number-falls b wanted h r l in
         let e : getD numbers b 0 - wanted ≡ suc (getD numbers (up parents b) 0 - wanted) = omega arith in
         rw e
+
+    -- the climb meets the block of that number on the way up, and no other is there
+    pub climbed-below : (b wanted : ℕ) → T (below (up parents) (climbed parents numbers b wanted) b)
+    unfolding climbed
+    climbed-below b wanted = steps-below (up parents) (t .falls) _ b (getD numbers b 0 - wanted) refl
+
+    pub climbed-number : (b wanted : ℕ) → b < n → getD numbers 0 0 ≤ wanted → wanted ≤ getD numbers b 0
+        → getD numbers (climbed parents numbers b wanted) 0 ≡ wanted
+    unfolding climbed
+    climbed-number b wanted h r l =
+        omega (arith, climb-reaches (view parents numbers n) t (getD numbers b 0 - wanted) b h (omega arith))
+
+    pub climbed-meets : (a b : ℕ) → b < n → T (below (up parents) a b) → climbed parents numbers b (getD numbers a 0) ≡ a
+    unfolding climbed
+    climbed-meets a b h s = eqb→eq _ a (T-true (sym (below-at (view parents numbers n) t a b h) ∙ true-T _ s))

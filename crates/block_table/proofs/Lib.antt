@@ -1,3 +1,4 @@
 pub mod Shapes
 pub mod Climbs
 pub mod Adds
+pub mod Asks
