@@ -44,7 +44,7 @@ use Rattle.block_table.specs.Add.{
   full,
   room,
 }
-use Rattle.block_table.proofs.Shapes.{means, meant}
+use Rattle.block_table.proofs.Shapes.{tabled-shaped, shaped-tabled}
 
 -- a block that is found stands there, and one that is not found stands nowhere
 module _ (t : BlockTable) (s : Shaped t) (id : ℕ) where
@@ -96,17 +96,17 @@ module _ (t : BlockTable) (id parent : ℕ) where
   pub due-answer : (a : Answer) → Due t id parent a → add t id parent .answer ≡ a
   unfolding add step append
   due-answer a (breaks-the-shape e) = rw e
-  due-answer a (already-there h k p) = rw (true-T (tabled t) h, stands-contains t (means t h) id k p)
-  due-answer a (no-parent h f g) = rw (true-T (tabled t) h, none-contains t (means t h) id f, stands-nothing t (means t h) parent g)
+  due-answer a (already-there h k p) = rw (true-T (tabled t) h, stands-contains t (tabled-shaped t h) id k p)
+  due-answer a (no-parent h f g) = rw (true-T (tabled t) h, none-contains t (tabled-shaped t h) id f, stands-nothing t (tabled-shaped t h) parent g)
   due-answer a (last-number h f k p e) =
-      rw (true-T (tabled t) h, none-contains t (means t h) id f, stands-found t (means t h) parent k p, eq-eqb _ _ e)
+      rw (true-T (tabled t) h, none-contains t (tabled-shaped t h) id f, stands-found t (tabled-shaped t h) parent k p, eq-eqb _ _ e)
   due-answer a (full h f k p e n) =
-      rw (true-T (tabled t) h, none-contains t (means t h) id f, stands-found t (means t h) parent k p, ne-eqb _ _ e, eq-eqb _ _ n)
+      rw (true-T (tabled t) h, none-contains t (tabled-shaped t h) id f, stands-found t (tabled-shaped t h) parent k p, ne-eqb _ _ e, eq-eqb _ _ n)
   due-answer a (room h f k p e n) =
       rw (
         true-T (tabled t) h,
-        none-contains t (means t h) id f,
-        stands-found t (means t h) parent k p,
+        none-contains t (tabled-shaped t h) id f,
+        stands-found t (tabled-shaped t h) parent k p,
         ne-eqb _ _ e,
         ne-eqb (t .count) 256 (λ q. omega arith),
       )
@@ -121,7 +121,7 @@ module _ (t : BlockTable) (id parent : ℕ) where
       counts : (h : T (tabled t)) → ((k : ℕ) → Stands t id k → ⊥) → (k : ℕ) → Stands t parent k → getD (t .numbers) k 0 ≢ 4294967295
           → Dec (t .count ≡ 256) → Due t id parent (add t id parent .answer)
       counts h f k p e (yes n) = due (full h f k p e n)
-      counts h f k p e (no n) = due (room h f k p e (omega (arith, means t h .few)))
+      counts h f k p e (no n) = due (room h f k p e (omega (arith, tabled-shaped t h .few)))
 
       numbers : (h : T (tabled t)) → ((k : ℕ) → Stands t id k → ⊥) → (k : ℕ) → Stands t parent k
           → Dec (getD (t .numbers) k 0 ≡ 4294967295) → Due t id parent (add t id parent .answer)
@@ -130,12 +130,12 @@ module _ (t : BlockTable) (id parent : ℕ) where
 
       parents : (h : T (tabled t)) → ((k : ℕ) → Stands t id k → ⊥) → (p : Place) → place-of (t .ids) (t .count) parent ≡ p
           → Due t id parent (add t id parent .answer)
-      parents h f (At k) e = numbers h f k (found-stands t (means t h) parent k e) (ℕ-discrete (getD (t .numbers) k 0) 4294967295)
-      parents h f Nothing e = due (no-parent h f (nothing-stands t (means t h) parent e))
+      parents h f (At k) e = numbers h f k (found-stands t (tabled-shaped t h) parent k e) (ℕ-discrete (getD (t .numbers) k 0) 4294967295)
+      parents h f Nothing e = due (no-parent h f (nothing-stands t (tabled-shaped t h) parent e))
 
       ids : (h : T (tabled t)) → (b : Bool) → contains (t .ids) (t .count) id ≡ b → Due t id parent (add t id parent .answer)
-      ids h true e = let r = contains-stands t (means t h) id e in due (already-there h (r .0) (r .1))
-      ids h false e = parents h (contains-none t (means t h) id e) (place-of (t .ids) (t .count) parent) refl
+      ids h true e = let r = contains-stands t (tabled-shaped t h) id e in due (already-there h (r .0) (r .1))
+      ids h false e = parents h (contains-none t (tabled-shaped t h) id e) (place-of (t .ids) (t .count) parent) refl
 
       shape : (b : Bool) → tabled t ≡ b → Due t id parent (add t id parent .answer)
       shape true e = ids (T-true e) (contains (t .ids) (t .count) id) refl
@@ -169,7 +169,7 @@ opened-shaped root number =
     after x k h = getD-set-other (replicate 256 0) 0 k x 0 (λ q. omega arith) ∙ zeros k
 
 pub opened-tabled : (root number : ℕ) → tabled (opened root number) ≡ true
-opened-tabled root number = true-T _ (meant (opened root number) (opened-shaped root number))
+opened-tabled root number = true-T _ (shaped-tabled (opened root number) (opened-shaped root number))
 
 -- a block more keeps the shape, and no block changes
 module _ (t : BlockTable) (s : Shaped t) (id above : ℕ) (under : above < t .count) (left : t .count < 256) where
@@ -330,17 +330,17 @@ module _ (t : BlockTable) (id parent : ℕ) where
   pub add-keeps : T (tabled t) → T (tabled (add t id parent .table))
   add-keeps h =
       by-shape (λ (a : Added). T (tabled (a .table)))
-      (λ s. meant (step t id parent .table) (step-keeps t (means t s) id parent))
+      (λ s. shaped-tabled (step t id parent .table) (step-keeps t (tabled-shaped t s) id parent))
       (λ e. h)
 
   -- blocks are added and none changes
   pub add-grows : Grown (blocks t) (blocks (add t id parent .table))
   add-grows =
       by-shape (λ (a : Added). Grown (blocks t) (blocks (a .table)))
-      (λ s. step-grows t (means t s) id parent)
+      (λ s. step-grows t (tabled-shaped t s) id parent)
       (λ e. record { more = omega arith; same-up = λ k h. refl; same-number = λ k h. refl })
 
   -- a refusal hands the table back equal
   pub add-refused : (n : ℕ) → add t id parent .answer ≡ Refused n → add t id parent .table ≡ t
   add-refused n =
-      by-shape (λ (a : Added). a .answer ≡ Refused n → a .table ≡ t) (λ s. step-refused t (means t s) id parent n) (λ e q. refl)
+      by-shape (λ (a : Added). a .answer ≡ Refused n → a .table ≡ t) (λ s. step-refused t (tabled-shaped t s) id parent n) (λ e q. refl)

@@ -20,7 +20,7 @@ use Rattle.block_table.specs.declared.Below.the-variants as lies
 use Rattle.block_table.specs.Shape.{up, view, blocks, tabled, Stands, Shaped}
 use Rattle.block_table.specs.Add.{place-of}
 use Rattle.block_table.specs.Ask.{as-block, find, climbed, ancestor-at, as-below, is-at-or-below}
-use Rattle.block_table.proofs.Shapes.{means}
+use Rattle.block_table.proofs.Shapes.{tabled-shaped}
 use Rattle.block_table.proofs.Adds.{found-stands, stands-found, stands-nothing}
 use Rattle.block_table.proofs.Climbs.{climbed-meets, climbed-below, climbed-number}
 
@@ -28,11 +28,11 @@ module _ (t : BlockTable) (h : T (tabled t)) where
   -- the block of an id is found, and no other
   pub finds : (id k : ℕ) → Stands t id k → find t id ≡ At k
   unfolding find
-  finds id k p = rw (true-T (tabled t) h, stands-found t (means t h) id k p)
+  finds id k p = rw (true-T (tabled t) h, stands-found t (tabled-shaped t h) id k p)
 
   pub finds-nothing : (id : ℕ) → ((k : ℕ) → Stands t id k → ⊥) → find t id ≡ Nothing
   unfolding find
-  finds-nothing id f = rw (true-T (tabled t) h, stands-nothing t (means t h) id f)
+  finds-nothing id f = rw (true-T (tabled t) h, stands-nothing t (tabled-shaped t h) id f)
 
   pub found : (id k : ℕ) → find t id ≡ At k → Stands t id k
   unfolding find
@@ -41,7 +41,7 @@ module _ (t : BlockTable) (h : T (tabled t)) where
       go : (p : Place) → place-of (t .ids) (t .count) id ≡ p → as-block p ≡ At k → Stands t id k
       go (place.At j) q r =
           let j-is : j ≡ k = cc in
-          found-stands t (means t h) id k (rw j-is at q)
+          found-stands t (tabled-shaped t h) id k (rw j-is at q)
       go place.Nothing q r = absurd (let z : _≡_ {A = ℕ} 0 1 = cc in omega arith)
 
   -- the ancestor at a number is the block above with that number, and every such block is it
@@ -49,7 +49,7 @@ module _ (t : BlockTable) (h : T (tabled t)) where
       → ancestor-at t b wanted ≡ At a
   unfolding ancestor-at
   ancestor-is a b wanted l s e =
-      let w = means t h in
+      let w = tabled-shaped t h in
       let root : getD (t .numbers) 0 0 ≤ wanted = omega (arith, e, number-root (blocks t) (w .tree) a (omega (arith, below-le (up (t .parents)) (w .tree .falls) a b s))) in
       let low : wanted ≤ getD (t .numbers) b 0 = omega (arith, e, number-below (blocks t) (w .tree) a b s l) in
       rw (
@@ -72,7 +72,7 @@ module _ (t : BlockTable) (h : T (tabled t)) where
           → cond (x && (y && z)) (At (climbed (t .parents) (t .numbers) b wanted)) Nothing ≡ At a
           → (b < t .count) × T (below (up (t .parents)) a b) × (getD (t .numbers) a 0 ≡ wanted)
       go true true true p q r s =
-          let w = means t h in
+          let w = tabled-shaped t h in
           let l = ltb→lt b (t .count) (T-true p) in
           let a-is : climbed (t .parents) (t .numbers) b wanted ≡ a = cc in (
             l,

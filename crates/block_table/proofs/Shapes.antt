@@ -20,7 +20,7 @@ use Rattle.block_table.specs.Shape.{
   view,
   blocks,
   sized,
-  counted,
+  count-fits,
   is-child,
   seated,
   is-tree,
@@ -148,17 +148,17 @@ unfolding sized
 sized-is ids numbers parents a b c = rw (a, b, c)
 
 module _ (n : ℕ) where
-  pub none-counted : n ≡ 0 → counted n ≡ false
-  unfolding counted
-  none-counted h = rw h
+  pub none-fits : n ≡ 0 → count-fits n ≡ false
+  unfolding count-fits
+  none-fits h = rw h
 
-  pub many-counted : 256 < n → counted n ≡ false
-  unfolding counted
-  many-counted h = rw (lt-ltb 0 n (omega arith), lt-leb n 256 h)
+  pub many-fits : 256 < n → count-fits n ≡ false
+  unfolding count-fits
+  many-fits h = rw (lt-ltb 0 n (omega arith), lt-leb n 256 h)
 
-  pub counted-is : (n ≡ 0 → ⊥) → n ≤ 256 → counted n ≡ true
-  unfolding counted
-  counted-is h l = rw (lt-ltb 0 n (omega arith), le-leb n 256 l)
+  pub count-fits-is : (n ≡ 0 → ⊥) → n ≤ 256 → count-fits n ≡ true
+  unfolding count-fits
+  count-fits-is h l = rw (lt-ltb 0 n (omega arith), le-leb n 256 l)
 
 three : (a b c : Bool) → T (a && (b && c)) → T a × T b × T c
 three a b c t = let u = right-of a (b && c) t in (left-of a (b && c) t, left-of b c u, right-of b c u)
@@ -168,14 +168,14 @@ all-three a b c p q r = both a (b && c) p (both b c q r)
 
 -- the test is the shape
 module _ (t : BlockTable) where
-  pub means : T (tabled t) → Shaped t
-  unfolding tabled sized counted are-clear
-  means s =
+  pub tabled-shaped : T (tabled t) → Shaped t
+  unfolding tabled sized count-fits are-clear
+  tabled-shaped s =
       let ids = t .ids in
       let numbers = t .numbers in
       let parents = t .parents in
       let n = t .count in
-      let all-five = three (sized ids numbers parents) (counted n) _ s in
+      let all-five = three (sized ids numbers parents) (count-fits n) _ s in
       let rest = three (is-tree parents numbers n) (are-clear ids numbers parents n) (are-distinct ids n) (all-five .2) in
       let sizes = three (eqb (length ids) 256) (eqb (length numbers) 256) (eqb (length parents) 256) (all-five .0) in
       let clears = three (is-clear ids n) (is-clear numbers n) (is-clear parents n) (rest .1) in
@@ -205,9 +205,9 @@ module _ (t : BlockTable) where
       go f id j k p q (inl a) (inr b) = absurd (f j k b (q .inside) (p .named ∙ sym (q .named)))
       go f id j k p q (inr a) b = absurd (f k j a (p .inside) (q .named ∙ sym (p .named)))
 
-  pub meant : Shaped t → T (tabled t)
-  unfolding tabled sized counted are-clear
-  meant s =
+  pub shaped-tabled : Shaped t → T (tabled t)
+  unfolding tabled sized count-fits are-clear
+  shaped-tabled s =
       let ids = t .ids in
       let numbers = t .numbers in
       let parents = t .parents in
@@ -230,7 +230,7 @@ module _ (t : BlockTable) where
       clears
       (means-distinct ids n (omega (arith, s .few, s .ids-size)) apart)
       in
-      all-three (sized ids numbers parents) (counted n) _ sizes (both (ltb 0 n) (leb n 256) (lt→ltb 0 n (s .rooted)) (le→leb n 256 (s .few))) rest
+      all-three (sized ids numbers parents) (count-fits n) _ sizes (both (ltb 0 n) (leb n 256) (lt→ltb 0 n (s .rooted)) (le→leb n 256 (s .few))) rest
     where
       apart : (j k : ℕ) → j < k → k < t .count → getD (t .ids) j 0 ≡ getD (t .ids) k 0 → ⊥
       apart j k h l e =

@@ -31,8 +31,8 @@ unfoldable pub sized : List ℕ → List ℕ → List ℕ → Bool
 sized ids numbers parents = eqb (length ids) 256 && (eqb (length numbers) 256 && eqb (length parents) 256)
 
 -- counts within sizes
-unfoldable pub counted : ℕ → Bool
-counted count = ltb 0 count && leb count 256
+unfoldable pub count-fits : ℕ → Bool
+count-fits count = ltb 0 count && leb count 256
 
 -- a block but the root names an earlier one as parent and has the parent's number plus 1
 unfoldable pub is-child : List ℕ → List ℕ → ℕ → Bool
@@ -68,7 +68,7 @@ are-clear ids numbers parents count = is-clear ids count && (is-clear numbers co
 unfoldable pub tabled : BlockTable → Bool
 tabled t =
     sized (t .ids) (t .numbers) (t .parents)
-    && (counted (t .count)
+    && (count-fits (t .count)
     && (is-tree (t .parents) (t .numbers) (t .count)
     && (are-clear (t .ids) (t .numbers) (t .parents) (t .count)
     && are-distinct (t .ids) (t .count))))

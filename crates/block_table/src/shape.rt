@@ -29,7 +29,7 @@ pub fn is_table<'a>(
 }
 
 // Every block but the root names an earlier one and has its number plus 1.
-pub fn is_tree<'a>(parents: &'a [u8; 256], numbers: &'a [u32; 256], count: usize) -> bool
+fn is_tree<'a>(parents: &'a [u8; 256], numbers: &'a [u32; 256], count: usize) -> bool
     requires { ⌜ (0 < count) × (count ≤ 256) ⌝ }
     ensures { λ r. ⌜ r ≡ is-tree (now (parents .entry)) (now (numbers .entry)) count ⌝ }
 {
@@ -55,7 +55,7 @@ fn is_child<'a>(parents: &'a [u8; 256], numbers: &'a [u32; 256], k: usize) -> bo
     wider(numbers[k]) == wider(numbers[parent]) + 1
 }
 
-pub fn are_distinct(ids: &[u32; 256], count: usize) -> bool
+fn are_distinct(ids: &[u32; 256], count: usize) -> bool
     requires { ⌜ count ≤ 256 ⌝ }
     ensures { λ r. ⌜ r ≡ are-distinct (now (ids .entry)) count ⌝ }
 {
@@ -68,7 +68,7 @@ pub fn are_distinct(ids: &[u32; 256], count: usize) -> bool
 }
 
 // The places from `count` on are 0.
-pub fn are_clear<'a>(
+fn are_clear<'a>(
     ids: &'a [u32; 256],
     numbers: &'a [u32; 256],
     parents: &'a [u8; 256],

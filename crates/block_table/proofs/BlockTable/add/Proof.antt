@@ -2,7 +2,7 @@ use mathlib.Core.Path.{sym, _∙_}
 use borrow.Author.Tests.{not-true, not-false}
 use Rattle.loops.proofs.Tests.{T-true}
 use Rattle.block_table.specs.Add.{add}
-use Rattle.block_table.proofs.Shapes.{means}
+use Rattle.block_table.proofs.Shapes.{tabled-shaped}
 use borrow.Author.Needs.{needs}
 use Rattle.block_table.proofs.BlockTable.add.Statement.{statement}
 use Rattle.block_table.proofs.BlockTable.add.Tie as tie
@@ -23,11 +23,11 @@ returns c = rw (sym (c .before .is-table .ensures) ∙ not-true _ (c .if1 .taken
 
 -- src/lib.rt:100:13
 add-requires : tie.Need-add-requires
-add-requires c κs = means _ (T-true (sym (c .before .before .before .before .before .before .before .is-table .ensures) ∙ not-false _ (c .before .before .before .before .before .before .if1 .left))) .few
+add-requires c κs = tabled-shaped _ (T-true (sym (c .before .before .before .before .before .before .before .is-table .ensures) ∙ not-false _ (c .before .before .before .before .before .before .if1 .left))) .few
 
 -- src/lib.rt:101:13
 counted-requires : tie.Need-counted-requires
-counted-requires c κs = means _ (T-true (sym (c .before .before .before .before .before .before .before .before .is-table .ensures) ∙ not-false _ (c .before .before .before .before .before .before .before .if1 .left))) .few
+counted-requires c κs = tabled-shaped _ (T-true (sym (c .before .before .before .before .before .before .before .before .is-table .ensures) ∙ not-false _ (c .before .before .before .before .before .before .before .if1 .left))) .few
 
 -- src/lib.rt:87:5
 returns-2 : tie.Need-returns-2

@@ -3,7 +3,7 @@ use native.Mathlib.Omega.{arith}
 use borrow.Author.Tests.{not-true, not-false, le-ltb, lt-ltb, le-leb, lt-leb}
 use Rattle.loops.proofs.Tests.{T-true}
 use Rattle.block_table.specs.Ask.{ancestor-at}
-use Rattle.block_table.proofs.Shapes.{means}
+use Rattle.block_table.proofs.Shapes.{tabled-shaped}
 use borrow.Author.Needs.{needs}
 use Rattle.block_table.proofs.BlockTable.ancestor_at.Statement.{statement}
 use Rattle.block_table.proofs.BlockTable.ancestor_at.Tie as tie
@@ -48,7 +48,7 @@ returns-4 c = rw (sym (c .before .before .before .before .before .before .before
 -- src/lib.rt:155:19
 ancestor-at-requires : tie.Need-ancestor-at-requires
 ancestor-at-requires c κs =
-    let w = means _ (T-true (sym (c .before .before .before .before .before .before .before .before .before .before .before .before .before .is-table .ensures) ∙ not-false _ (c .before .before .before .before .before .before .before .before .before .before .before .before .if1 .left))) in
+    let w = tabled-shaped _ (T-true (sym (c .before .before .before .before .before .before .before .before .before .before .before .before .before .is-table .ensures) ∙ not-false _ (c .before .before .before .before .before .before .before .before .before .before .before .before .if1 .left))) in
     (_, w .tree, c .before .before .before .before .before .before .before .before .before .before .before .if2 .left, omega (arith, c .before .before .before .before .before .before .before .before .number .ensures, c .before .before .before .before .before .before .before .if3 .left))
 
 -- src/lib.rt:140:5

@@ -2,7 +2,7 @@ use mathlib.Core.Path.{sym, _∙_}
 use borrow.Author.Tests.{not-true, not-false}
 use Rattle.loops.proofs.Tests.{T-true}
 use Rattle.block_table.specs.Ask.{find}
-use Rattle.block_table.proofs.Shapes.{means}
+use Rattle.block_table.proofs.Shapes.{tabled-shaped}
 use borrow.Author.Needs.{needs}
 use Rattle.block_table.proofs.BlockTable.find.Statement.{statement}
 use Rattle.block_table.proofs.BlockTable.find.Tie as tie
@@ -22,7 +22,7 @@ returns c = rw (sym (c .before .is-table .ensures) ∙ not-true _ (c .if1 .taken
 
 -- src/lib.rt:120:32
 find-requires : tie.Need-find-requires
-find-requires c κs = means _ (T-true (sym (c .before .before .before .is-table .ensures) ∙ not-false _ (c .before .before .if1 .left))) .few
+find-requires c κs = tabled-shaped _ (T-true (sym (c .before .before .before .is-table .ensures) ∙ not-false _ (c .before .before .if1 .left))) .few
 
 -- src/lib.rt:120:23
 enum-known-place : tie.Need-enum-known-place

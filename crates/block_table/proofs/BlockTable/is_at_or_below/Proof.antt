@@ -2,7 +2,7 @@ use mathlib.Core.Path.{sym, _∙_}
 use borrow.Author.Tests.{not-true, not-false, le-ltb, lt-ltb}
 use Rattle.loops.proofs.Tests.{T-true}
 use Rattle.block_table.specs.Ask.{is-at-or-below}
-use Rattle.block_table.proofs.Shapes.{means}
+use Rattle.block_table.proofs.Shapes.{tabled-shaped}
 use borrow.Author.Needs.{needs}
 use Rattle.block_table.proofs.BlockTable.is_at_or_below.Statement.{statement}
 use Rattle.block_table.proofs.BlockTable.is_at_or_below.Tie as tie
@@ -33,7 +33,7 @@ returns-3 c = rw (sym (c .before .before .before .is-table .ensures) ∙ not-fal
 -- src/lib.rt:171:12
 is-at-or-below-requires : tie.Need-is-at-or-below-requires
 is-at-or-below-requires c κs =
-    let w = means _ (T-true (sym (c .before .before .before .before .before .before .is-table .ensures) ∙ not-false _ (c .before .before .before .before .before .if1 .left))) in
+    let w = tabled-shaped _ (T-true (sym (c .before .before .before .before .before .before .is-table .ensures) ∙ not-false _ (c .before .before .before .before .before .if1 .left))) in
     (_, w .tree, c .before .before .before .before .if2 .left, c .before .before .before .if3 .left)
 
 -- src/lib.rt:159:5
