@@ -1,20 +1,19 @@
 -- What adding does: the answer that is due, and the shape kept.
-use mathlib.Core.Bool.{Bool, true, false, cond}
-use mathlib.Core.List.{List}
+use mathlib.Core.Bool.{Bool, true, false}
 use mathlib.Core.Path.{_≡_, refl, sym, ap, subst, _∙_}
 use mathlib.Core.Logic.{_≢_, _⊎_, inl, inr}
-use Prim.Native.Nat.{ℕ, zero, suc, pred, _+_, _≤_, _<_}
+use Prim.Native.Nat.{ℕ, pred, _+_, _≤_, _<_}
 use native.Mathlib.Decide.{ℕ-discrete}
 use native.Mathlib.Omega.{arith}
-use lib.Dec.{T, eqb, eqb→eq}
-use lib.ListN.{length, getD, set, replicate, length-set, length-replicate, getD-replicate, List·getD-eq-default}
+use lib.Dec.{T, eqb→eq}
+use lib.ListN.{getD, set, replicate, length-set, getD-replicate, List·getD-eq-default}
 use lib.Seq.{getD-set-same, getD-set-other}
 use borrow.Author.Tests.{eq-eqb, ne-eqb}
 use Rattle.loops.proofs.Tests.{T-true, true-T, false-not, le-or-lt}
 use Rattle.columns.specs.declared.Found.{Found}
 use Rattle.columns.specs.declared.Found.the-variants as found
 use Rattle.columns.specs.Find.{find, contains}
-use Rattle.columns.proofs.Finds.{find-at, find-nothing, at-find, nothing-find, contains-at, at-contains}
+use Rattle.columns.proofs.Finds.{find-at, at-find, contains-at, at-contains}
 use Rattle.grandpa.specs.Tree.{Tabled}
 use Rattle.grandpa.specs.Time.{Grown}
 use Rattle.block_table.specs.declared.BlockTable.{BlockTable}
@@ -23,27 +22,8 @@ use Rattle.block_table.specs.declared.Place.the-variants.{At, Nothing}
 use Rattle.block_table.specs.declared.Answer.{Answer}
 use Rattle.block_table.specs.declared.Answer.the-variants.{Placed, Refused}
 use Rattle.block_table.specs.declared.Added.{Added}
-use Rattle.block_table.specs.Shape.{up, view, blocks, tabled, Stands, Shaped}
-use Rattle.block_table.specs.Add.{
-  opened,
-  as-place,
-  place-of,
-  on-place,
-  refused,
-  appended,
-  placed,
-  append,
-  step,
-  add,
-  counted,
-  Due,
-  breaks-the-shape,
-  already-there,
-  no-parent,
-  last-number,
-  full,
-  room,
-}
+use Rattle.block_table.specs.Shape.{up, blocks, tabled, Stands, Shaped}
+use Rattle.block_table.specs.Add.{opened, as-place, place-of, refused, appended, placed, append, step, add, Due, breaks-the-shape, already-there, no-parent, last-number, full, room}
 use Rattle.block_table.proofs.Shapes.{tabled-shaped, shaped-tabled}
 
 -- a block that is found stands there, and one that is not found stands nowhere

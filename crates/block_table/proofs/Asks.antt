@@ -1,23 +1,20 @@
 -- What asking a table tells.
 use mathlib.Core.Bool.{Bool, true, false, cond, _&&_}
-use mathlib.Core.List.{List}
-use mathlib.Core.Path.{_≡_, refl, sym, ap, subst, _∙_}
-use Prim.Native.Nat.{ℕ, _+_, _-_, _≤_, _<_}
+use mathlib.Core.Path.{_≡_, refl}
+use Prim.Native.Nat.{ℕ, _≤_, _<_}
 use native.Mathlib.Omega.{arith}
-use lib.Dec.{T, eqb, leb, ltb, ltb→lt, leb→le}
+use lib.Dec.{T, leb, ltb, ltb→lt, leb→le}
 use lib.ListN.{getD}
 use borrow.Author.Tests.{lt-ltb, le-leb}
-use Rattle.loops.proofs.Tests.{T-true, true-T, left-of, right-of}
-use Rattle.grandpa.specs.Tree.{Tabled, climb, below}
+use Rattle.loops.proofs.Tests.{T-true, true-T}
+use Rattle.grandpa.specs.Tree.{below}
 use Rattle.grandpa.proofs.Trees.{below-le, number-root, number-below}
 use Rattle.block_table.specs.declared.BlockTable.{BlockTable}
 use Rattle.block_table.specs.declared.Place.{Place}
 use Rattle.block_table.specs.declared.Place.the-variants as place
-use Rattle.block_table.specs.declared.Block.{Block}
-use Rattle.block_table.specs.declared.Block.the-variants.{At, Nothing, Refused}
-use Rattle.block_table.specs.declared.Below.{Below}
+use Rattle.block_table.specs.declared.Block.the-variants.{At, Nothing}
 use Rattle.block_table.specs.declared.Below.the-variants as lies
-use Rattle.block_table.specs.Shape.{up, view, blocks, tabled, Stands, Shaped}
+use Rattle.block_table.specs.Shape.{up, blocks, tabled, Stands}
 use Rattle.block_table.specs.Add.{place-of}
 use Rattle.block_table.specs.Ask.{as-block, find, climbed, ancestor-at, as-below, is-at-or-below}
 use Rattle.block_table.proofs.Shapes.{tabled-shaped}

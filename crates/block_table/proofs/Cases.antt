@@ -1,5 +1,4 @@
 -- Worked examples, by computing: document 01's case J has this tree.
-use mathlib.Core.Bool.{Bool, true, false}
 use mathlib.Core.Path.{_≡_, refl}
 use lib.ListN.{set}
 use Rattle.loops.specs.Loop.{first}

@@ -1,7 +1,7 @@
 -- What each part of the shape test means, that the whole is `Shaped` and no more, and the turns of the loops that run it.
-use mathlib.Core.Bool.{Bool, true, false, not, _&&_, _||_}
+use mathlib.Core.Bool.{Bool, true, false, _&&_}
 use mathlib.Core.List.{List}
-use mathlib.Core.Path.{_≡_, refl, sym, subst, _∙_}
+use mathlib.Core.Path.{_≡_, refl, sym, _∙_}
 use mathlib.Core.Logic.{_⊎_, inl, inr}
 use Prim.Native.Nat.{ℕ, zero, suc, pred, _+_, _≤_, _<_}
 use native.Mathlib.Omega.{arith}
@@ -10,29 +10,12 @@ use lib.ListN.{length, getD, List·getD-eq-default}
 use borrow.Author.Tests.{eq-eqb, ne-eqb, lt-ltb, le-ltb, le-leb, lt-leb}
 use Rattle.loops.specs.All.{all}
 use Rattle.loops.proofs.Tests.{T-true, true-T, T-false, false-T, false-not, both, left-of, right-of, in-left, in-right, either, le-or-lt}
-use Rattle.loops.proofs.Alls.{all-at, all-intro, all-none, all-more, all-turn, all-false}
-use Rattle.columns.specs.Find.{used, contains}
+use Rattle.loops.proofs.Alls.{all-at, all-intro, all-none, all-more, all-turn}
+use Rattle.columns.specs.Find.{contains}
 use Rattle.columns.proofs.Finds.{contains-at, at-contains}
-use Rattle.grandpa.specs.Tree.{Blocks, Tabled}
+use Rattle.grandpa.specs.Tree.{Tabled}
 use Rattle.block_table.specs.declared.BlockTable.{BlockTable}
-use Rattle.block_table.specs.Shape.{
-  up,
-  view,
-  blocks,
-  sized,
-  count-fits,
-  is-child,
-  seated,
-  is-tree,
-  is-new,
-  are-distinct,
-  clear-at,
-  is-clear,
-  are-clear,
-  tabled,
-  Stands,
-  Shaped,
-}
+use Rattle.block_table.specs.Shape.{up, view, sized, count-fits, is-child, seated, is-tree, is-new, are-distinct, clear-at, is-clear, are-clear, tabled, Stands, Shaped}
 
 -- unused places
 module _ (column : List ℕ) (count : ℕ) where

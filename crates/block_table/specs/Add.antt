@@ -1,10 +1,10 @@
 -- Opening a table and adding a block. Document 01, "Sizes" and "Refusal numbers" 5, 6, 7, 8, in that order, and 9 before
 -- them; a refusal hands the table back equal.
-use mathlib.Core.Bool.{Bool, false, cond}
+use mathlib.Core.Bool.{false, cond}
 use mathlib.Core.List.{List}
 use mathlib.Core.Path.{_≡_}
 use mathlib.Core.Logic.{_≢_}
-use Prim.Native.Nat.{ℕ, _+_, _≤_, _<_}
+use Prim.Native.Nat.{ℕ, _+_, _<_}
 use lib.Dec.{T, eqb}
 use lib.ListN.{getD, set, replicate}
 use Rattle.columns.specs.declared.Found.{Found}

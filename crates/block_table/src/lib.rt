@@ -84,7 +84,7 @@ impl BlockTable {
     }
 
     // One more block, under a parent that is named by its id.
-    pub fn add(self, id: u32, parent: u32) -> Added
+    pub fn add(mut self, id: u32, parent: u32) -> Added
         ensures { λ r. ⌜ r ≡ add self id parent ⌝ }
     {
         if !self.is_table() {
@@ -96,17 +96,14 @@ impl BlockTable {
         let mut ids = self.ids;
         let mut numbers = self.numbers;
         let mut parents = self.parents;
-        let count = self.count;
-        let answer = inner::add(&mut ids, &mut numbers, &mut parents, count, id, parent);
-        let after = inner::counted(count, answer);
+        let answer = inner::add(&mut ids, &mut numbers, &mut parents, self.count, id, parent);
+        self.ids = ids;
+        self.numbers = numbers;
+        self.parents = parents;
+        self.count = inner::counted(self.count, answer);
         Added {
             answer,
-            table: BlockTable {
-                ids,
-                numbers,
-                parents,
-                count: after,
-            },
+            table: self,
         }
     }
 

@@ -7,51 +7,37 @@ use Rattle.block_table.proofs.Shapes.{tabled-shaped}
 use borrow.Author.Needs.{needs}
 use Rattle.block_table.proofs.BlockTable.ancestor_at.Statement.{statement}
 use Rattle.block_table.proofs.BlockTable.ancestor_at.Tie as tie
-use Rattle.block_table.proofs.BlockTable.ancestor_at.Reads as reads
-use Rattle.block_table.proofs.BlockTable.ancestor_at.Lts as lts
-use Rattle.block_table.proofs.BlockTable.is_table.Reads as is-table-reads
-use Rattle.block_table.proofs.inner.ancestor_at.Reads as ancestor-at-reads
-use Rattle.block_table.proofs.inner.number.Reads as number-reads
 
--- src/lib.rt:143:13
 is-table-requires : tie.Need-is-table-requires
 is-table-requires c κs = search needs
 
--- src/lib.rt:144:13
 returns : tie.Need-returns
 unfolding ancestor-at
 returns c = rw (sym (c .before .is-table .ensures) ∙ not-true _ (c .if1 .taken))
 
--- src/lib.rt:147:13
 returns-2 : tie.Need-returns-2
 unfolding ancestor-at
 returns-2 c = rw (sym (c .before .before .is-table .ensures) ∙ not-false _ (c .before .if1 .left), le-ltb _ _ (c .if2 .taken))
 
--- src/lib.rt:149:21
 number-requires : tie.Need-number-requires
 number-requires c κs = search needs
 
--- src/lib.rt:150:13
 returns-3 : tie.Need-returns-3
 unfolding ancestor-at
 returns-3 c = rw (sym (c .before .before .before .before .before .before .is-table .ensures) ∙ not-false _ (c .before .before .before .before .before .if1 .left), lt-ltb _ _ (c .before .before .before .before .if2 .left), ← c .before .number .ensures, lt-leb _ _ (c .if3 .taken))
 
--- src/lib.rt:152:12
 number-requires-2 : tie.Need-number-requires-2
 number-requires-2 c κs = search needs
 
--- src/lib.rt:153:13
 returns-4 : tie.Need-returns-4
 unfolding ancestor-at
 returns-4 c = rw (sym (c .before .before .before .before .before .before .before .before .before .before .is-table .ensures) ∙ not-false _ (c .before .before .before .before .before .before .before .before .before .if1 .left), lt-ltb _ _ (c .before .before .before .before .before .before .before .before .if2 .left), ← c .before .before .before .before .before .number .ensures, le-leb _ _ (c .before .before .before .before .if3 .left), ← c .before .number2 .ensures, lt-leb _ _ (c .if4 .taken))
 
--- src/lib.rt:155:19
 ancestor-at-requires : tie.Need-ancestor-at-requires
 ancestor-at-requires c κs =
     let w = tabled-shaped _ (T-true (sym (c .before .before .before .before .before .before .before .before .before .before .before .before .before .is-table .ensures) ∙ not-false _ (c .before .before .before .before .before .before .before .before .before .before .before .before .if1 .left))) in
     (_, w .tree, c .before .before .before .before .before .before .before .before .before .before .before .if2 .left, omega (arith, c .before .before .before .before .before .before .before .before .number .ensures, c .before .before .before .before .before .before .before .if3 .left))
 
--- src/lib.rt:140:5
 returns-5 : tie.Need-returns-5
 unfolding ancestor-at
 returns-5 c = rw (sym (c .before .before .before .before .before .before .before .before .before .before .before .before .before .before .is-table .ensures) ∙ not-false _ (c .before .before .before .before .before .before .before .before .before .before .before .before .before .if1 .left), lt-ltb _ _ (c .before .before .before .before .before .before .before .before .before .before .before .before .if2 .left), ← c .before .before .before .before .before .before .before .before .before .number .ensures, le-leb _ _ (c .before .before .before .before .before .before .before .before .if3 .left), ← c .before .before .before .before .before .number2 .ensures, le-leb _ _ (c .before .before .before .before .if4 .left), c .ancestor-at .ensures)

@@ -6,42 +6,31 @@ use Rattle.block_table.proofs.Shapes.{tabled-shaped}
 use borrow.Author.Needs.{needs}
 use Rattle.block_table.proofs.BlockTable.is_at_or_below.Statement.{statement}
 use Rattle.block_table.proofs.BlockTable.is_at_or_below.Tie as tie
-use Rattle.block_table.proofs.BlockTable.is_at_or_below.Reads as reads
-use Rattle.block_table.proofs.BlockTable.is_at_or_below.Lts as lts
-use Rattle.block_table.proofs.BlockTable.is_table.Reads as is-table-reads
-use Rattle.block_table.proofs.inner.is_at_or_below.Reads as is-at-or-below-reads
 
--- src/lib.rt:162:13
 is-table-requires : tie.Need-is-table-requires
 is-table-requires c κs = search needs
 
--- src/lib.rt:163:13
 returns : tie.Need-returns
 unfolding is-at-or-below
 returns c = rw (sym (c .before .is-table .ensures) ∙ not-true _ (c .if1 .taken))
 
--- src/lib.rt:166:13
 returns-2 : tie.Need-returns-2
 unfolding is-at-or-below
 returns-2 c = rw (sym (c .before .before .is-table .ensures) ∙ not-false _ (c .before .if1 .left), le-ltb _ _ (c .if2 .taken))
 
--- src/lib.rt:169:13
 returns-3 : tie.Need-returns-3
 unfolding is-at-or-below
 returns-3 c = rw (sym (c .before .before .before .is-table .ensures) ∙ not-false _ (c .before .before .if1 .left), lt-ltb _ _ (c .before .if2 .left), le-ltb _ _ (c .if3 .taken))
 
--- src/lib.rt:171:12
 is-at-or-below-requires : tie.Need-is-at-or-below-requires
 is-at-or-below-requires c κs =
     let w = tabled-shaped _ (T-true (sym (c .before .before .before .before .before .before .is-table .ensures) ∙ not-false _ (c .before .before .before .before .before .if1 .left))) in
     (_, w .tree, c .before .before .before .before .if2 .left, c .before .before .before .if3 .left)
 
--- src/lib.rt:159:5
 returns-4 : tie.Need-returns-4
 unfolding is-at-or-below
 returns-4 c = rw (sym (c .before .before .before .before .before .before .before .before .is-table .ensures) ∙ not-false _ (c .before .before .before .before .before .before .before .if1 .left), lt-ltb _ _ (c .before .before .before .before .before .before .if2 .left), lt-ltb _ _ (c .before .before .before .before .before .if3 .left), sym (c .before .is-at-or-below .ensures) ∙ c .if4 .taken)
 
--- src/lib.rt:159:5
 returns-5 : tie.Need-returns-5
 unfolding is-at-or-below
 returns-5 c = rw (sym (c .before .before .before .before .before .before .before .before .is-table .ensures) ∙ not-false _ (c .before .before .before .before .before .before .before .if1 .left), lt-ltb _ _ (c .before .before .before .before .before .before .if2 .left), lt-ltb _ _ (c .before .before .before .before .before .if3 .left), sym (c .before .is-at-or-below .ensures) ∙ c .if4 .left)

@@ -3,18 +3,13 @@ use Rattle.block_table.specs.Add.{opened}
 use borrow.Author.Needs.{needs}
 use Rattle.block_table.proofs.BlockTable.new.Statement.{statement}
 use Rattle.block_table.proofs.BlockTable.new.Tie as tie
-use Rattle.block_table.proofs.BlockTable.new.Reads as reads
-use Rattle.block_table.proofs.BlockTable.new.Lts as lts
 
--- src/lib.rt:69:9
 array-write-ids : tie.Need-array-write-ids
 array-write-ids c = search needs
 
--- src/lib.rt:70:9
 array-write-numbers : tie.Need-array-write-numbers
 array-write-numbers c = search needs
 
--- src/lib.rt:63:5
 returns : tie.Need-returns
 unfolding opened
 returns c = refl

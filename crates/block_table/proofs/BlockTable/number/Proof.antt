@@ -4,30 +4,21 @@ use Rattle.block_table.specs.Ask.{number}
 use borrow.Author.Needs.{needs}
 use Rattle.block_table.proofs.BlockTable.number.Statement.{statement}
 use Rattle.block_table.proofs.BlockTable.number.Tie as tie
-use Rattle.block_table.proofs.BlockTable.number.Reads as reads
-use Rattle.block_table.proofs.BlockTable.number.Lts as lts
-use Rattle.block_table.proofs.BlockTable.is_table.Reads as is-table-reads
-use Rattle.block_table.proofs.inner.number.Reads as number-reads
 
--- src/lib.rt:130:13
 is-table-requires : tie.Need-is-table-requires
 is-table-requires c κs = search needs
 
--- src/lib.rt:131:13
 returns : tie.Need-returns
 unfolding number
 returns c = rw (sym (c .before .is-table .ensures) ∙ not-true _ (c .if1 .taken))
 
--- src/lib.rt:134:13
 returns-2 : tie.Need-returns-2
 unfolding number
 returns-2 c = rw (sym (c .before .before .is-table .ensures) ∙ not-false _ (c .before .if1 .left), le-ltb _ _ (c .if2 .taken))
 
--- src/lib.rt:136:20
 number-requires : tie.Need-number-requires
 number-requires c κs = search needs
 
--- src/lib.rt:127:5
 returns-3 : tie.Need-returns-3
 unfolding number
 returns-3 c = rw (sym (c .before .before .before .before .before .is-table .ensures) ∙ not-false _ (c .before .before .before .before .if1 .left), lt-ltb _ _ (c .before .before .before .if2 .left), c .number .ensures)

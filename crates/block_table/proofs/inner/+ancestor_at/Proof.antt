@@ -1,5 +1,5 @@
 use borrow.Author.Needs.{needs}
-use mathlib.Core.Path.{_≡_, sym, _∙_}
+use mathlib.Core.Path.{sym, _∙_}
 use Prim.Native.Nat.{_-_}
 use native.Mathlib.Omega.{arith}
 use lib.ListN.{getD}
@@ -24,28 +24,24 @@ abbrev ancestor-at-below : ℕ → In 1 ancestor-at-kinds.ps
 ancestor-at-below t =
     and 1 ancestor-at-kinds.ps (falls 1 ancestor-at-kinds.ps _<_ μ-ancestor-at t) ancestor-at.Pre
 
--- src/inner.rt:42:8
 ancestor-at-mul-if1 : (t : ℕ) → ancestor-at-lts.Need-mul-if1 (
   ancestor-at-below t,
   ancestor-at.Post,
 ) (ancestor-at-at t) ancestor-at.Post
 ancestor-at-mul-if1 t c = search needs
 
--- src/inner.rt:42:8
 ancestor-at-element-copy-out-if1 : (t : ℕ) → ancestor-at-lts.Need-element-copy-out-if1 (
   ancestor-at-below t,
   ancestor-at.Post,
 ) (ancestor-at-at t) ancestor-at.Post
 ancestor-at-element-copy-out-if1 t c = search needs
 
--- src/inner.rt:43:9
 ancestor-at-returns : (t : ℕ) → ancestor-at-lts.Need-returns (
   ancestor-at-below t,
   ancestor-at.Post,
 ) (ancestor-at-at t) ancestor-at.Post
 ancestor-at-returns t c = sym (climbed-here _ _ _ _ (c .if1 .taken))
 
--- src/inner.rt:45:35
 ancestor-at-element-copy-out-ancestor-at :
     (t : ℕ) → ancestor-at-lts.Need-element-copy-out-ancestor-at (
       ancestor-at-below t,
@@ -53,7 +49,6 @@ ancestor-at-element-copy-out-ancestor-at :
     ) (ancestor-at-at t) ancestor-at.Post
 ancestor-at-element-copy-out-ancestor-at t c = search needs
 
--- src/inner.rt:45:5
 ancestor-at-ancestor-at-requires : (t : ℕ) → ancestor-at-lts.Need-ancestor-at-requires (
   ancestor-at-below t,
   ancestor-at.Post,
@@ -63,7 +58,6 @@ ancestor-at-ancestor-at-requires t c κs =
     let f = number-falls (c .before .before .before .args .parents .now) (c .before .before .before .args .numbers .now) (p .0) (p .1) _ _ (p .2) (p .3) (c .before .if1 .left) in
     (omega (arith, c .before .before .before .pre .0, f, c .before .if1 .left), (p .0, p .1, omega (arith, p .1 .falls (c .before .before .before .args .block), p .2), p .3))
 
--- src/inner.rt:32:1
 ancestor-at-returns-2 : (t : ℕ) → ancestor-at-lts.Need-returns-2 (
   ancestor-at-below t,
   ancestor-at.Post,

@@ -1,36 +1,27 @@
-use mathlib.Core.Path.{_≡_, sym, _∙_}
+use mathlib.Core.Path.{sym, _∙_}
 use native.Mathlib.Omega.{arith}
 use Rattle.columns.proofs.Finds.{find-at}
 use Rattle.block_table.specs.Add.{place-of}
 use borrow.Author.Needs.{needs}
 use Rattle.block_table.proofs.inner.find.Statement.{statement}
 use Rattle.block_table.proofs.inner.find.Tie as tie
-use Rattle.block_table.proofs.inner.find.Reads as reads
-use Rattle.block_table.proofs.inner.find.Lts as lts
-use Rattle.columns.proofs.find.Reads as find-reads
 
--- src/inner.rt:19:28
 find-requires : tie.Need-find-requires
 find-requires c κs = search needs
 
--- src/inner.rt:19:19
 enum-known-place : tie.Need-enum-known-place
 enum-known-place c = search needs
 
--- src/inner.rt:20:9
 enum-told : tie.Need-enum-told
 enum-told c = search needs
 
--- src/inner.rt:20:9
 returns : tie.Need-returns
 unfolding place-of
 returns c = rw (sym (c .before .before .find .ensures) ∙ c .enum-told .given .1)
 
--- src/inner.rt:22:15
 cast-t8 : tie.Need-cast-t8
 cast-t8 c = omega (arith, find-at _ _ _ _ (sym (c .before .before .before .find .ensures) ∙ c .before .place .given .1) .inside, c .before .before .before .before .before .pre)
 
--- src/inner.rt:15:1
 returns-2 : tie.Need-returns-2
 unfolding place-of
 returns-2 c = rw (sym (c .before .before .before .find .ensures) ∙ c .before .place .given .1)

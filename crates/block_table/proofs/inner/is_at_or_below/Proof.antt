@@ -1,30 +1,21 @@
-use mathlib.Core.Path.{_≡_, sym, ap, _∙_}
-use lib.Dec.{eqb}
+use mathlib.Core.Path.{sym}
 use Rattle.grandpa.proofs.Trees.{below-at, number-root}
-use Rattle.block_table.specs.Shape.{view}
 use Rattle.block_table.specs.Ask.{climbed}
 use borrow.Author.Needs.{needs}
 use Rattle.block_table.proofs.inner.is_at_or_below.Statement.{statement}
 use Rattle.block_table.proofs.inner.is_at_or_below.Tie as tie
-use Rattle.block_table.proofs.inner.is_at_or_below.Reads as reads
-use Rattle.block_table.proofs.inner.is_at_or_below.Lts as lts
-use Rattle.block_table.proofs.inner.ancestor_at.Reads as ancestor-at-reads
 
--- src/inner.rt:58:42
 mul-ancestor-at : tie.Need-mul-ancestor-at
 mul-ancestor-at c = search needs
 
--- src/inner.rt:58:42
 element-copy-out-ancestor-at : tie.Need-element-copy-out-ancestor-at
 element-copy-out-ancestor-at c = search needs
 
--- src/inner.rt:58:5
 ancestor-at-requires : tie.Need-ancestor-at-requires
 ancestor-at-requires c κs =
     let p = c .before .pre in
     (p .0, p .1, p .3, number-root _ (p .1) _ (p .2))
 
--- src/inner.rt:49:1
 returns : tie.Need-returns
 unfolding climbed
 returns c =

@@ -4,34 +4,24 @@ use Rattle.block_table.specs.Shape.{are-clear}
 use borrow.Author.Needs.{needs}
 use Rattle.block_table.proofs.shape.are_clear.Statement.{statement}
 use Rattle.block_table.proofs.shape.are_clear.Tie as tie
-use Rattle.block_table.proofs.shape.are_clear.Reads as reads
-use Rattle.block_table.proofs.shape.are_clear.Lts as lts
-use Rattle.block_table.proofs.shape.is_clear.Reads as is-clear-reads
-use Rattle.block_table.proofs.shape.is_clear_of_places.Reads as is-clear-of-places-reads
 
--- src/shape.rt:80:9
 is-clear-requires : tie.Need-is-clear-requires
 is-clear-requires c κs = search needs
 
--- src/shape.rt:81:9
 returns : tie.Need-returns
 unfolding are-clear
 returns c = rw (sym (c .before .is-clear .ensures) ∙ not-true _ (c .if1 .taken))
 
--- src/shape.rt:83:9
 is-clear-requires-2 : tie.Need-is-clear-requires-2
 is-clear-requires-2 c κs = search needs
 
--- src/shape.rt:84:9
 returns-2 : tie.Need-returns-2
 unfolding are-clear
 returns-2 c = rw (sym (c .before .before .before .is-clear .ensures) ∙ not-false _ (c .before .before .if1 .left), sym (c .before .is-clear2 .ensures) ∙ not-true _ (c .if2 .taken))
 
--- src/shape.rt:86:5
 is-clear-of-places-requires : tie.Need-is-clear-of-places-requires
 is-clear-of-places-requires c κs = search needs
 
--- src/shape.rt:71:1
 returns-3 : tie.Need-returns-3
 unfolding are-clear
 returns-3 c = rw (sym (c .before .before .before .before .is-clear .ensures) ∙ not-false _ (c .before .before .before .if1 .left), sym (c .before .before .is-clear2 .ensures) ∙ not-false _ (c .before .if2 .left), c .is-clear-of-places .ensures)

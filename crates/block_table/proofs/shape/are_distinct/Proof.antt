@@ -9,9 +9,6 @@ use Rattle.loops.proofs.Alls.{all-none, all-more, all-false}
 use Rattle.block_table.specs.Shape.{is-new, are-distinct}
 use Rattle.block_table.proofs.shape.are_distinct.Statement.{statement}
 use Rattle.block_table.proofs.shape.are_distinct.Tie as tie
-use Rattle.block_table.proofs.shape.are_distinct.Reads as reads
-use Rattle.block_table.proofs.shape.are_distinct.Lts as lts
-use Rattle.columns.proofs.contains.Reads as contains-reads
 
 abbrev Inv-loop : tie.InvT-loop
 Inv-loop ids count k₀ k = (k ≤ count) × (all k (is-new ids) ≡ true)
@@ -19,40 +16,31 @@ Inv-loop ids count k₀ k = (k ≤ count) × (all k (is-new ids) ≡ true)
 abbrev μ-loop : tie.MeasureT-loop
 μ-loop ids count k₀ k = count - k
 
--- src/shape.rt:62:5
 loop-holds : tie.Need-loop-holds Inv-loop μ-loop
 loop-holds c = (omega arith, all-none _)
 
--- src/shape.rt:63:38
 mul-contains : tie.Need-mul-contains Inv-loop μ-loop
 mul-contains c = search needs
 
--- src/shape.rt:63:38
 element-copy-out-contains : tie.Need-element-copy-out-contains Inv-loop μ-loop
 element-copy-out-contains c = search needs
 
--- src/shape.rt:63:12
 contains-requires : tie.Need-contains-requires Inv-loop μ-loop
 contains-requires c κs = search needs
 
--- src/shape.rt:64:13
 returns : tie.Need-returns Inv-loop μ-loop
 unfolding are-distinct
 returns c = sym (all-false (is-new _) _ _ (c .before .before .before .before .loop-test .taken) (ap not (sym (c .before .contains .ensures) ∙ c .if1 .taken)))
 
--- src/shape.rt:62:9
 add-k : tie.Need-add-k Inv-loop μ-loop
 add-k c = search needs
 
--- src/shape.rt:62:5
 loop-less : tie.Need-loop-less Inv-loop μ-loop
 loop-less c = search needs
 
--- src/shape.rt:62:5
 loop-again : tie.Need-loop-again Inv-loop μ-loop
 loop-again c = (omega arith, all-more (is-new _) _ (c .before .before .before .before .before .loop .inv .1) (ap not (sym (c .before .contains .ensures) ∙ c .if1 .left)))
 
--- src/shape.rt:58:1
 returns-2 : tie.Need-returns-2 Inv-loop μ-loop
 unfolding are-distinct
 returns-2 c = let e = le-antisymm (c .before .loop .inv .0) (c .loop-test .left) in sym (rw e at (c .before .loop .inv .1))

@@ -1,58 +1,41 @@
-use mathlib.Core.Path.{_≡_}
-use Prim.Native.Nat.{_≤_, _<_}
 use native.Mathlib.Omega.{arith}
 use borrow.Author.Tests.{le-ltb, lt-ltb}
 use Rattle.block_table.specs.Shape.{up, is-child}
 use borrow.Author.Needs.{needs}
 use Rattle.block_table.proofs.shape.is_child.Statement.{statement}
 use Rattle.block_table.proofs.shape.is_child.Tie as tie
-use Rattle.block_table.proofs.shape.is_child.Reads as reads
-use Rattle.block_table.proofs.shape.is_child.Lts as lts
-use Rattle.block_table.proofs.shape.wide.Reads as wide-reads
-use Rattle.block_table.proofs.shape.wider.Reads as wider-reads
 
--- src/shape.rt:51:23
 element-copy-out-wide : tie.Need-element-copy-out-wide
 element-copy-out-wide c = search needs
 
--- src/shape.rt:51:9
 wide-requires : tie.Need-wide-requires
 wide-requires c κs = search needs
 
--- src/shape.rt:53:9
 returns : tie.Need-returns
 unfolding is-child
 returns c = rw (le-ltb (up (c .before .before .before .args .parents .now) (c .before .before .before .args .k)) (c .before .before .before .args .k) (omega (arith, c .before .wide .ensures .0, c .if1 .taken)))
 
--- src/shape.rt:55:11
 mul-wider : tie.Need-mul-wider
 mul-wider c = search needs
 
--- src/shape.rt:55:11
 element-copy-out-wider : tie.Need-element-copy-out-wider
 element-copy-out-wider c = search needs
 
--- src/shape.rt:55:5
 wider-requires : tie.Need-wider-requires
 wider-requires c κs = search needs
 
--- src/shape.rt:55:32
 mul-wider-2 : tie.Need-mul-wider-2
 mul-wider-2 c = search needs
 
--- src/shape.rt:55:32
 element-copy-out-wider-2 : tie.Need-element-copy-out-wider-2
 element-copy-out-wider-2 c = search needs
 
--- src/shape.rt:55:26
 wider-requires-2 : tie.Need-wider-requires-2
 wider-requires-2 c κs = search needs
 
--- src/shape.rt:55:26
 add-result : tie.Need-add-result
 add-result c = search needs
 
--- src/shape.rt:47:1
 returns-2 : tie.Need-returns-2
 unfolding is-child
 returns-2 c = rw (c .before .before .wider .ensures .0, c .wider2 .ensures .0, c .before .before .before .before .before .wide .ensures .0, lt-ltb (up (c .before .before .before .before .before .before .before .args .parents .now) (c .before .before .before .before .before .before .before .args .k)) (c .before .before .before .before .before .before .before .args .k) (omega (arith, c .before .before .before .before .before .wide .ensures .0, c .before .before .before .before .if1 .left)))
