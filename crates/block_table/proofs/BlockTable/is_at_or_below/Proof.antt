@@ -1,3 +1,4 @@
+use native.Mathlib.Omega.{arith}
 use mathlib.Core.Path.{sym, _∙_}
 use borrow.Author.Tests.{not-true, not-false, le-ltb, lt-ltb}
 use Rattle.loops.proofs.Tests.{T-true}
@@ -25,7 +26,7 @@ returns-3 c = rw (sym (c .before .before .before .is-table .ensures) ∙ not-fal
 is-at-or-below-requires : tie.Need-is-at-or-below-requires
 is-at-or-below-requires c κs =
     let w = tabled-shaped _ (T-true (sym (c .before .before .before .before .before .before .is-table .ensures) ∙ not-false _ (c .before .before .before .before .before .if1 .left))) in
-    (_, w .tree, c .before .before .before .before .if2 .left, c .before .before .before .if3 .left)
+    (_, w .tree, omega (arith, c .before .before .before .before .if2 .left, c .before .before .before .if3 .left), omega (arith, c .before .before .before .before .if2 .left, c .before .before .before .if3 .left))
 
 returns-4 : tie.Need-returns-4
 unfolding is-at-or-below

@@ -1,10 +1,9 @@
 use borrow.Author.Needs.{needs}
 use mathlib.Core.Path.{sym, _∙_}
-use Prim.Native.Nat.{_-_}
+use Prim.Native.Nat.{ℕ, _-_, _≤_, _<_}
 use native.Mathlib.Omega.{arith}
 use lib.ListN.{getD}
 use Rattle.block_table.proofs.Climbs.{climbed-here, climbed-up, number-falls}
-use Prim.Native.Nat.{ℕ, _<_}
 use borrow.Fn.Kinds.{In}
 use borrow.Fn.PlainCycle.{Measures, is, falls, and}
 use Rattle.block_table.proofs.inner.ancestor_at.Reads as ancestor-at
@@ -40,7 +39,10 @@ ancestor-at-returns : (t : ℕ) → ancestor-at-lts.Need-returns (
   ancestor-at-below t,
   ancestor-at.Post,
 ) (ancestor-at-at t) ancestor-at.Post
-ancestor-at-returns t c = sym (climbed-here _ _ _ _ (c .if1 .taken))
+ancestor-at-returns t c =
+    let a = c .before .before .args in
+    let h : getD (a .numbers .now) (a .block) 0 ≤ a .wanted = omega (arith, c .if1 .taken) in
+    sym (climbed-here _ _ _ _ h)
 
 ancestor-at-element-copy-out-ancestor-at :
     (t : ℕ) → ancestor-at-lts.Need-element-copy-out-ancestor-at (
@@ -55,8 +57,10 @@ ancestor-at-ancestor-at-requires : (t : ℕ) → ancestor-at-lts.Need-ancestor-a
 ) (ancestor-at-at t) ancestor-at.Post
 ancestor-at-ancestor-at-requires t c κs =
     let p = c .before .before .before .pre .1 in
-    let f = number-falls (c .before .before .before .args .parents .now) (c .before .before .before .args .numbers .now) (p .0) (p .1) _ _ (p .2) (p .3) (c .before .if1 .left) in
-    (omega (arith, c .before .before .before .pre .0, f, c .before .if1 .left), (p .0, p .1, omega (arith, p .1 .falls (c .before .before .before .args .block), p .2), p .3))
+    let a = c .before .before .before .args in
+    let h : a .wanted < getD (a .numbers .now) (a .block) 0 = omega (arith, c .before .if1 .left) in
+    let f = number-falls (a .parents .now) (a .numbers .now) (p .0) (p .1) (a .block) (a .wanted) (p .2) (p .3) h in
+    (omega (arith, c .before .before .before .pre .0, f, h), (p .0, p .1, omega (arith, p .1 .falls (a .block), p .2), p .3))
 
 ancestor-at-returns-2 : (t : ℕ) → ancestor-at-lts.Need-returns-2 (
   ancestor-at-below t,
@@ -64,7 +68,9 @@ ancestor-at-returns-2 : (t : ℕ) → ancestor-at-lts.Need-returns-2 (
 ) (ancestor-at-at t) ancestor-at.Post
 ancestor-at-returns-2 t c =
     let p = c .before .before .before .before .pre .1 in
-    c .ancestor-at .ensures ∙ sym (climbed-up _ _ (p .0) (p .1) _ _ (p .2) (p .3) (c .before .before .if1 .left))
+    let a = c .before .before .before .before .args in
+    let h : a .wanted < getD (a .numbers .now) (a .block) 0 = omega (arith, c .before .before .if1 .left) in
+    c .ancestor-at .ensures ∙ sym (climbed-up _ _ (p .0) (p .1) _ _ (p .2) (p .3) h)
 
 pub +ancestor-at-spec : {M : Type 1} → statement M
 +ancestor-at-spec = close μ-ancestor-at λ t. ancestor-at-lts.spec (

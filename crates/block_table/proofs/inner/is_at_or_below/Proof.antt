@@ -2,6 +2,7 @@ use mathlib.Core.Path.{sym}
 use Rattle.grandpa.proofs.Trees.{below-at, number-root}
 use Rattle.block_table.specs.Ask.{climbed}
 use borrow.Author.Needs.{needs}
+use native.Mathlib.Omega.{arith}
 use Rattle.block_table.proofs.inner.is_at_or_below.Statement.{statement}
 use Rattle.block_table.proofs.inner.is_at_or_below.Tie as tie
 
@@ -14,7 +15,7 @@ element-copy-out-ancestor-at c = search needs
 ancestor-at-requires : tie.Need-ancestor-at-requires
 ancestor-at-requires c κs =
     let p = c .before .pre in
-    (p .0, p .1, p .3, number-root _ (p .1) _ (p .2))
+    (p .0, p .1, omega (arith, p .2, p .3), number-root _ (p .1) _ (omega (arith, p .2, p .3)))
 
 returns : tie.Need-returns
 unfolding climbed
