@@ -22,7 +22,7 @@ use Rattle.block_table.specs.declared.Place.the-variants.{At, Nothing}
 use Rattle.block_table.specs.declared.Answer.{Answer}
 use Rattle.block_table.specs.declared.Answer.the-variants.{Placed, Refused}
 use Rattle.block_table.specs.declared.Added.{Added}
-use Rattle.block_table.specs.Shape.{up, blocks, tabled, Stands, Shaped}
+use Rattle.block_table.specs.Shape.{up, blocks, tabled, Stands, Absent, Shaped}
 use Rattle.block_table.specs.Add.{opened, as-place, place-of, refused, appended, placed, append, step, add, Due, breaks-the-shape, already-there, no-parent, last-number, full, room}
 use Rattle.block_table.proofs.Shapes.{tabled-shaped, shaped-tabled}
 
@@ -46,10 +46,10 @@ module _ (t : BlockTable) (s : Shaped t) (id : ℕ) where
       (at-find (t .ids) (t .count) id k (omega (arith, s .few, s .ids-size, p .inside)) (p .named)
       (λ j h e. let q = s .distinct id j k (record { inside = omega (arith, p .inside); named = e }) p in omega arith))
 
-  pub nothing-stands : place-of (t .ids) (t .count) id ≡ Nothing → (k : ℕ) → Stands t id k → ⊥
+  pub nothing-stands : place-of (t .ids) (t .count) id ≡ Nothing → Absent t id
   nothing-stands e k p = let q = stands-found k p in let z : _≡_ {A = ℕ} 0 1 = cc in omega arith
 
-  pub stands-nothing : ((k : ℕ) → Stands t id k → ⊥) → place-of (t .ids) (t .count) id ≡ Nothing
+  pub stands-nothing : Absent t id → place-of (t .ids) (t .count) id ≡ Nothing
   stands-nothing f = go (place-of (t .ids) (t .count) id) refl
     where
       go : (p : Place) → place-of (t .ids) (t .count) id ≡ p → place-of (t .ids) (t .count) id ≡ Nothing
@@ -65,10 +65,10 @@ module _ (t : BlockTable) (s : Shaped t) (id : ℕ) where
       let r = contains-at (t .ids) (t .count) id (T-true e) in
       (r .0, record { inside = omega (arith, r .1); named = r .2 })
 
-  pub none-contains : ((k : ℕ) → Stands t id k → ⊥) → contains (t .ids) (t .count) id ≡ false
+  pub none-contains : Absent t id → contains (t .ids) (t .count) id ≡ false
   none-contains f = false-not _ (λ h. let r = contains-stands (true-T _ h) in f (r .0) (r .1))
 
-  pub contains-none : contains (t .ids) (t .count) id ≡ false → (k : ℕ) → Stands t id k → ⊥
+  pub contains-none : contains (t .ids) (t .count) id ≡ false → Absent t id
   contains-none e k p = let q = stands-contains k p in let z : _≡_ {A = ℕ} 0 1 = cc in omega arith
 
 -- the answer is the one that is due
@@ -98,17 +98,17 @@ module _ (t : BlockTable) (id parent : ℕ) where
       due : {a : Answer} → Due t id parent a → Due t id parent (add t id parent .answer)
       due {a} d = subst (Due t id parent) (sym (due-answer a d)) d
 
-      counts : (h : T (tabled t)) → ((k : ℕ) → Stands t id k → ⊥) → (k : ℕ) → Stands t parent k → getD (t .numbers) k 0 ≢ 4294967295
+      counts : (h : T (tabled t)) → Absent t id → (k : ℕ) → Stands t parent k → getD (t .numbers) k 0 ≢ 4294967295
           → Dec (t .count ≡ 256) → Due t id parent (add t id parent .answer)
       counts h f k p e (yes n) = due (full h f k p e n)
       counts h f k p e (no n) = due (room h f k p e (omega (arith, tabled-shaped t h .few)))
 
-      numbers : (h : T (tabled t)) → ((k : ℕ) → Stands t id k → ⊥) → (k : ℕ) → Stands t parent k
+      numbers : (h : T (tabled t)) → Absent t id → (k : ℕ) → Stands t parent k
           → Dec (getD (t .numbers) k 0 ≡ 4294967295) → Due t id parent (add t id parent .answer)
       numbers h f k p (yes e) = due (last-number h f k p e)
       numbers h f k p (no e) = counts h f k p e (ℕ-discrete (t .count) 256)
 
-      parents : (h : T (tabled t)) → ((k : ℕ) → Stands t id k → ⊥) → (p : Place) → place-of (t .ids) (t .count) parent ≡ p
+      parents : (h : T (tabled t)) → Absent t id → (p : Place) → place-of (t .ids) (t .count) parent ≡ p
           → Due t id parent (add t id parent .answer)
       parents h f (At k) e = numbers h f k (found-stands t (tabled-shaped t h) parent k e) (ℕ-discrete (getD (t .numbers) k 0) 4294967295)
       parents h f Nothing e = due (no-parent h f (nothing-stands t (tabled-shaped t h) parent e))
@@ -185,7 +185,7 @@ module _ (t : BlockTable) (s : Shaped t) (id above : ℕ) (under : above < t .co
           let f = s .tree .falls k in
           rw (same-parent k n, same-number-at k n, same-number-at (getD (t .parents) k 0) (λ q. omega arith)) (s .tree .numbered k h (omega arith))
 
-  pub appended-shaped : ((k : ℕ) → Stands t id k → ⊥) → Shaped (appended t id above)
+  pub appended-shaped : Absent t id → Shaped (appended t id above)
   appended-shaped fresh =
       record {
         ids-size = simp length-set (s .ids-size);
@@ -237,7 +237,7 @@ module _ (t : BlockTable) (s : Shaped t) (id above : ℕ) (under : above < t .co
 -- a call on a table that keeps the shape refuses, or places the block
 pub data Stepped (t : BlockTable) (id parent : ℕ) : Added → Type 0 where
   refuses : (n : ℕ) → Stepped t id parent (refused t n)
-  places : (above : ℕ) → Stands t parent above → ((k : ℕ) → Stands t id k → ⊥) → t .count < 256 → Stepped t id parent (placed t id above)
+  places : (above : ℕ) → Stands t parent above → Absent t id → t .count < 256 → Stepped t id parent (placed t id above)
 
 module _ (t : BlockTable) (s : Shaped t) (id parent : ℕ) where
   pub stepped : Stepped t id parent (step t id parent)
@@ -277,9 +277,13 @@ module _ (t : BlockTable) (s : Shaped t) (id parent : ℕ) where
   stepped-refused n (places above p f l) e = absurd (let z : _≡_ {A = ℕ} 0 1 = cc in omega arith)
 
   stepped-placed : {a : Added} (k : ℕ) → Stepped t id parent a → a .answer ≡ Placed k
-      → (k ≡ t .count) × (above : ℕ) × Stands t parent above × ((j : ℕ) → Stands t id j → ⊥) × (t .count < 256) × (a .table ≡ appended t id above)
+      → (k ≡ t .count) × (above : ℕ) × Stands t parent above × Absent t id × (t .count < 256) × (a .table ≡ appended t id above)
   stepped-placed k (refuses m) e = absurd (let z : _≡_ {A = ℕ} 0 1 = cc in omega arith)
   stepped-placed k (places above p f l) e = (cc, above, p, f, l, refl)
+
+  stepped-stands : {a : Added} (x k : ℕ) → Stepped t id parent a → Stands t x k → Stands (a .table) x k
+  stepped-stands x k (refuses n) q = q
+  stepped-stands x k (places above p f l) q = appended-stands t s id above (p .inside) l x k q
 
   pub step-keeps : Shaped (step t id parent .table)
   step-keeps = stepped-shaped stepped
@@ -287,13 +291,16 @@ module _ (t : BlockTable) (s : Shaped t) (id parent : ℕ) where
   pub step-grows : Grown (blocks t) (blocks (step t id parent .table))
   step-grows = stepped-grown stepped
 
+  pub step-stands : (x k : ℕ) → Stands t x k → Stands (step t id parent .table) x k
+  step-stands x k q = stepped-stands x k stepped q
+
   pub step-refused : (n : ℕ) → step t id parent .answer ≡ Refused n → step t id parent .table ≡ t
   step-refused n e = stepped-refused n stepped e
 
   -- a placed block is the last, and new, under a parent that stands
   pub step-placed : (k : ℕ) → step t id parent .answer ≡ Placed k
       → (k ≡ t .count)
-      × (above : ℕ) × Stands t parent above × ((j : ℕ) → Stands t id j → ⊥) × (t .count < 256) × (step t id parent .table ≡ appended t id above)
+      × (above : ℕ) × Stands t parent above × Absent t id × (t .count < 256) × (step t id parent .table ≡ appended t id above)
   step-placed k e = stepped-placed k stepped e
 
 -- the same of any table

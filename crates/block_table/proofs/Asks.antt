@@ -14,7 +14,7 @@ use Rattle.block_table.specs.declared.Place.{Place}
 use Rattle.block_table.specs.declared.Place.the-variants as place
 use Rattle.block_table.specs.declared.Block.the-variants.{At, Nothing}
 use Rattle.block_table.specs.declared.Below.the-variants as lies
-use Rattle.block_table.specs.Shape.{up, blocks, tabled, Stands}
+use Rattle.block_table.specs.Shape.{up, blocks, tabled, Stands, Absent}
 use Rattle.block_table.specs.Add.{place-of}
 use Rattle.block_table.specs.Ask.{as-block, find, climbed, ancestor-at, as-below, is-at-or-below}
 use Rattle.block_table.proofs.Shapes.{tabled-shaped}
@@ -27,7 +27,7 @@ module _ (t : BlockTable) (h : T (tabled t)) where
   unfolding find
   finds id k p = rw (true-T (tabled t) h, stands-found t (tabled-shaped t h) id k p)
 
-  pub finds-nothing : (id : ℕ) → ((k : ℕ) → Stands t id k → ⊥) → find t id ≡ Nothing
+  pub finds-nothing : (id : ℕ) → Absent t id → find t id ≡ Nothing
   unfolding find
   finds-nothing id f = rw (true-T (tabled t) h, stands-nothing t (tabled-shaped t h) id f)
 

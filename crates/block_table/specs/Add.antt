@@ -16,7 +16,7 @@ use Rattle.block_table.specs.declared.Place.the-variants.{At, Nothing}
 use Rattle.block_table.specs.declared.Answer.{Answer}
 use Rattle.block_table.specs.declared.Answer.the-variants.{Placed, Refused}
 use Rattle.block_table.specs.declared.Added.{Added}
-use Rattle.block_table.specs.Shape.{tabled, Stands}
+use Rattle.block_table.specs.Shape.{tabled, Stands, Absent}
 
 -- a root with its number, and no other block
 unfoldable pub opened : ℕ → ℕ → BlockTable
@@ -75,10 +75,10 @@ counted count (Refused n) = count
 pub data Due (t : BlockTable) (id parent : ℕ) : Answer → Type 0 where
   breaks-the-shape : tabled t ≡ false → Due t id parent (Refused 9)
   already-there : T (tabled t) → (k : ℕ) → Stands t id k → Due t id parent (Refused 5)
-  no-parent : T (tabled t) → ((k : ℕ) → Stands t id k → ⊥) → ((k : ℕ) → Stands t parent k → ⊥) → Due t id parent (Refused 6)
-  last-number : T (tabled t) → ((k : ℕ) → Stands t id k → ⊥) → (k : ℕ) → Stands t parent k → getD (t .numbers) k 0 ≡ 4294967295
+  no-parent : T (tabled t) → Absent t id → Absent t parent → Due t id parent (Refused 6)
+  last-number : T (tabled t) → Absent t id → (k : ℕ) → Stands t parent k → getD (t .numbers) k 0 ≡ 4294967295
       → Due t id parent (Refused 7)
-  full : T (tabled t) → ((k : ℕ) → Stands t id k → ⊥) → (k : ℕ) → Stands t parent k → getD (t .numbers) k 0 ≢ 4294967295
+  full : T (tabled t) → Absent t id → (k : ℕ) → Stands t parent k → getD (t .numbers) k 0 ≢ 4294967295
       → t .count ≡ 256 → Due t id parent (Refused 8)
-  room : T (tabled t) → ((k : ℕ) → Stands t id k → ⊥) → (k : ℕ) → Stands t parent k → getD (t .numbers) k 0 ≢ 4294967295
+  room : T (tabled t) → Absent t id → (k : ℕ) → Stands t parent k → getD (t .numbers) k 0 ≢ 4294967295
       → t .count < 256 → Due t id parent (Placed (t .count))

@@ -78,6 +78,10 @@ pub record Stands (t : BlockTable) (id k : ℕ) : Type 0 where
   pub inside : k < t .count
   pub named : getD (t .ids) k 0 ≡ id
 
+-- no block has this id
+abbrev pub Absent : BlockTable → ℕ → Type 0
+Absent t id = (k : ℕ) → Stands t id k → ⊥
+
 -- what the test says
 pub record Shaped (t : BlockTable) : Type 0 where
   pub ids-size : length (t .ids) ≡ 256
