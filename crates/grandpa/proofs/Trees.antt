@@ -152,6 +152,46 @@ module _ (t : Blocks) (tabled : Tabled t) where
         tabled .numbered b (omega (arith, below-le (t .up) (tabled .falls) a b s)) h,
       )
 
+  pub number-root : (b : ℕ) → b < t .count → t .number 0 ≤ t .number b
+  number-root b h = number-below 0 b (below-root (t .up) (tabled .falls) b) h
+
+  -- k steps up the number is k less, as long as the root is not passed
+  pub climb-reaches : (k b : ℕ) → b < t .count → t .number 0 + k ≤ t .number b → t .number (climb (t .up) k b) + k ≡ t .number b
+  unfolding climb
+  climb-reaches zero b h l = omega arith
+  climb-reaches (suc k) zero h l = absurd (omega arith)
+  climb-reaches (suc k) (suc b) h l =
+      let e = tabled .numbered (suc b) (omega arith) h in
+      omega (arith, climb-reaches k (t .up (suc b)) (omega (arith, tabled .falls (suc b))) (omega arith))
+
+  climb-meets : (k a b : ℕ) → climb (t .up) k b ≡ a → b < t .count → climb (t .up) (t .number b - t .number a) b ≡ a
+  unfolding climb
+  climb-meets zero a b e h = let z : t .number b - t .number a ≡ 0 = omega (arith, ap (t .number) e) in rw z e
+  climb-meets (suc k) a b e h = go (ℕ-discrete b a) (climb-meets k a (t .up b) e (omega (arith, tabled .falls b)))
+    where
+      go : Dec (b ≡ a) → climb (t .up) (t .number (t .up b) - t .number a) (t .up b) ≡ a
+          → climb (t .up) (t .number b - t .number a) b ≡ a
+      go (yes q) r = let z : t .number b - t .number a ≡ 0 = omega (arith, ap (t .number) q) in rw z q
+      go (no q) r =
+          let l = climb-le (t .up) (tabled .falls) k (t .up b) in
+          let f = tabled .falls b in
+          let n = tabled .numbered b (omega arith) h in
+          let m = rw e at (climb-number k (t .up b) (omega arith)) in
+          let z : t .number b - t .number a ≡ suc (t .number (t .up b) - t .number a) = omega arith in
+          rw z r
+
+  -- at or below, by the block of a's number on the way up from b
+  pub below-at : (a b : ℕ) → b < t .count → below (t .up) a b ≡ eqb (climb (t .up) (t .number b - t .number a) b) a
+  below-at a b h = same-test (below (t .up) a b) _ into back
+    where
+      into : T (below (t .up) a b) → T (eqb (climb (t .up) (t .number b - t .number a) b) a)
+      into s =
+          let p = below-steps (t .up) (tabled .falls) a b s in
+          subst (λ (x : ℕ). T (eqb x a)) (sym (climb-meets (p .0) a b (p .1) h)) (eqb-refl a)
+
+      back : T (eqb (climb (t .up) (t .number b - t .number a) b) a) → T (below (t .up) a b)
+      back s = steps-below (t .up) (tabled .falls) a b (t .number b - t .number a) (eqb→eq _ a s)
+
 -- two tables that agree on the first n places agree on what lies above those
 module _ (n : ℕ) (up up′ : ℕ → ℕ) (falls : (k : ℕ) → up k ≤ pred k) (same : (k : ℕ) → k < n → up k ≡ up′ k) where
   within-same : (f a b : ℕ) → b < n → within up f a b ≡ within up′ f a b

@@ -50,6 +50,11 @@ module _ (p : ℕ → Bool) where
           T-false-true a b = let z : _≡_ {A = ℕ} 0 1 = cc in omega arith
       go (no i) true q f = f (omega arith) e
 
+  -- the turns of a loop that looks at each place without an early exit
+  pub all-turn : (n : ℕ) → (p n && all n p) ≡ all (n + 1) p
+  unfolding all
+  all-turn n = rw add-one
+
   pub any-at : (n : ℕ) → T (any n p) → (k : ℕ) × (k < n) × T (p k)
   unfolding any
   any-at zero t = absurd t
