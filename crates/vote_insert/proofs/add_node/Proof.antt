@@ -1,3 +1,7 @@
+use mathlib.Core.Path.{_≡_, refl, sym, ap, subst, _∙_}
+use Prim.Native.Nat.{ℕ, _<_, _≤_, _-_, _+_}
+use native.Mathlib.Omega.{arith}
+use Rattle.vote_insert.proofs.Adds.{few, list-room, heads-room, is-over, added-some, added-none}
 use borrow.Author.Needs.{needs}
 use Rattle.vote_insert.proofs.add_node.Statement.{statement}
 use Rattle.vote_insert.proofs.add_node.Tie as tie
@@ -29,15 +33,15 @@ nearest-requires c κs = search needs
 
 -- src/lib.rt:204:9
 join-of-requires : tie.Need-join-of-requires
-join-of-requires c κs = ?
+join-of-requires c κs = few _ _ _ _ (c .before .before .before .before .before .before .before .before .before .before .pre) _ (c .before .before .before .before .before .before .find-containing-nodes .ensures)
 
 -- src/lib.rt:205:9
 relist-requires : tie.Need-relist-requires
-relist-requires c κs = ?
+relist-requires c κs = list-room _ _ _ _ (c .before .before .before .before .before .before .before .before .before .before .before .before .before .before .pre) _ (c .before .before .before .before .before .before .before .before .before .before .find-containing-nodes .ensures)
 
 -- src/lib.rt:206:5
 set-all-requires : tie.Need-set-all-requires
-set-all-requires c κs = ?
+set-all-requires c κs = few _ _ _ _ (c .before .before .before .before .before .before .before .before .before .before .before .before .before .before .before .before .before .before .pre) _ (c .before .before .before .before .before .before .before .before .before .before .before .before .before .before .find-containing-nodes .ensures)
 
 -- src/lib.rt:207:5
 element-write-above : tie.Need-element-write-above
@@ -57,15 +61,19 @@ element-set-from-bits c = search needs
 
 -- src/lib.rt:213:9
 returns : tie.Need-returns
-returns c = ?
+returns c =
+    added-some _ _ _ _ (c .before .before .before .before .before .before .before .before .before .before .before .before .before .before .before .before .before .before .before .before .before .pre) _ (c .before .before .before .before .before .before .before .before .before .before .before .before .before .before .before .before .before .find-containing-nodes .ensures) _ _ _ _ _ (c .before .before .before .before .before .before .before .before .before .before .before .before .before .before .before .before .before .before .before .before .wide .ensures .0) (c .before .before .before .before .before .before .before .before .before .before .before .before .before .before .nearest .ensures) (c .before .before .before .before .before .before .before .before .before .before .join-of .ensures) (c .before .before .before .before .before .before .relist .ensures) (c .before .before .set-all .ensures) (c .if1 .taken)
 
 -- src/lib.rt:218:9
 rehead-requires : tie.Need-rehead-requires
-rehead-requires c κs = ?
+rehead-requires c κs =
+    heads-room _ _ _ _ (c .before .before .before .before .before .before .before .before .before .before .before .before .before .before .before .before .before .before .before .before .before .before .pre) _ (c .before .before .before .before .before .before .before .before .before .before .before .before .before .before .before .before .before .before .find-containing-nodes .ensures) (c .before .if1 .left) _
+    (is-over _ _ _ _ (c .before .before .before .before .before .before .before .before .before .before .before .before .before .before .before .before .before .before .before .before .before .before .pre) _ (c .before .before .before .before .before .before .before .before .before .before .before .before .before .before .before .before .before .before .find-containing-nodes .ensures) _ _ _ _ _ (c .before .before .before .before .before .before .before .before .before .before .before .before .before .before .before .before .before .before .before .before .before .wide .ensures .0) (c .before .before .before .before .before .before .before .before .before .before .before .before .before .before .before .nearest .ensures) (c .before .before .before .before .before .before .before .before .before .before .before .join-of .ensures) (c .before .before .before .before .before .before .before .relist .ensures) (c .before .before .before .set-all .ensures))
 
 -- src/lib.rt:185:1
 returns-2 : tie.Need-returns-2
-returns-2 c = ?
+returns-2 c =
+    added-none _ _ _ _ (c .before .before .before .before .before .before .before .before .before .before .before .before .before .before .before .before .before .before .before .before .before .before .before .before .pre) _ (c .before .before .before .before .before .before .before .before .before .before .before .before .before .before .before .before .before .before .before .before .find-containing-nodes .ensures) _ _ _ _ _ (c .before .before .before .before .before .before .before .before .before .before .before .before .before .before .before .before .before .before .before .before .before .before .before .wide .ensures .0) (c .before .before .before .before .before .before .before .before .before .before .before .before .before .before .before .before .before .nearest .ensures) (c .before .before .before .before .before .before .before .before .before .before .before .before .before .join-of .ensures) (c .before .before .before .before .before .before .before .before .before .relist .ensures) (c .before .before .before .before .before .set-all .ensures) (c .before .before .before .if1 .left) _ (c .before .rehead .ensures)
 
 pub add-node-spec : {M : Type 1} → statement M
 add-node-spec =

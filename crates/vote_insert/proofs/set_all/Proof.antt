@@ -46,9 +46,9 @@ loop-less c = omega (arith, c .before .before .loop-test .taken)
 -- src/lib.rt:160:5
 loop-again : tie.Need-loop-again Inv-loop μ-loop
 loop-again c = (
-    omega (arith, c .before .before .loop-test .taken),
-    ap (λ (x : ℕ). set (c .before .before .before .loop .above) x (c .before .before .before .before .args .node)) (c .wide .ensures .0) ∙ ap (λ (v : List ℕ). set v (getD (c .before .before .before .before .args .members .now) (c .before .before .before .loop .k) 0) (c .before .before .before .before .args .node)) (c .before .before .before .loop .inv .1) ∙ sym (set-all-next _ _ _ _),
-  )
+  omega (arith, c .before .before .loop-test .taken),
+  ap (λ (x : ℕ). set (c .before .before .before .loop .above) x (c .before .before .before .before .args .node)) (c .wide .ensures .0) ∙ ap (λ (v : List ℕ). set v (getD (c .before .before .before .before .args .members .now) (c .before .before .before .loop .k) 0) (c .before .before .before .before .args .node)) (c .before .before .before .loop .inv .1) ∙ sym (set-all-next _ _ _ _),
+)
 
 -- src/lib.rt:156:1
 returns : tie.Need-returns Inv-loop μ-loop
