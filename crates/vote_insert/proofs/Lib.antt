@@ -1,0 +1,4 @@
+pub mod Lists
+pub mod Marks
+pub mod Adds
+pub mod Keeps
