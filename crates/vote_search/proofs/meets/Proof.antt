@@ -1,0 +1,151 @@
+use Rattle.vote_search.proofs.meets.Statement.{statement}
+use Rattle.vote_search.proofs.meets.Tie as tie
+use Rattle.vote_search.proofs.meets.Reads as reads
+use Rattle.vote_search.proofs.meets.Lts as lts
+use Rattle.bitfield.proofs.merge.Reads as merge-reads
+use Rattle.nodes.proofs.passes.Reads as passes-reads
+use Rattle.nodes.proofs.towards.Reads as towards-reads
+use Rattle.nodes.proofs.wide.Reads as wide-reads
+
+abbrev Inv-loop : tie.InvT-loop
+Inv-loop parents rows weights question places count block seen₀ joined₀ k₀ seen joined k = ?
+
+abbrev μ-loop : tie.MeasureT-loop
+μ-loop parents rows weights question places count block seen₀ joined₀ k₀ seen joined k = ?
+
+-- src/lib.rt:125:5
+loop-holds : tie.Need-loop-holds Inv-loop μ-loop
+loop-holds c = ?
+
+-- src/lib.rt:126:20
+element-copy-out-node : tie.Need-element-copy-out-node Inv-loop μ-loop
+element-copy-out-node c = ?
+
+-- src/lib.rt:127:13
+towards-requires : tie.Need-towards-requires Inv-loop μ-loop
+towards-requires c κs = ?
+
+-- src/lib.rt:129:13
+add-k : tie.Need-add-k Inv-loop μ-loop
+add-k c = ?
+
+-- src/lib.rt:125:5
+loop-less : tie.Need-loop-less Inv-loop μ-loop
+loop-less c = ?
+
+-- src/lib.rt:125:5
+loop-again : tie.Need-loop-again Inv-loop μ-loop
+loop-again c = ?
+
+-- src/lib.rt:131:13
+wide-requires : tie.Need-wide-requires Inv-loop μ-loop
+wide-requires c κs = ?
+
+-- src/lib.rt:132:13
+wide-requires-2 : tie.Need-wide-requires-2 Inv-loop μ-loop
+wide-requires-2 c κs = ?
+
+-- src/lib.rt:133:36
+mul-merge : tie.Need-mul-merge Inv-loop μ-loop
+mul-merge c = ?
+
+-- src/lib.rt:133:36
+array-copy-out-merge : tie.Need-array-copy-out-merge Inv-loop μ-loop
+array-copy-out-merge c = ?
+
+-- src/lib.rt:133:48
+mul-merge-2 : tie.Need-mul-merge-2 Inv-loop μ-loop
+mul-merge-2 c = ?
+
+-- src/lib.rt:133:48
+element-copy-out-merge : tie.Need-element-copy-out-merge Inv-loop μ-loop
+element-copy-out-merge c = ?
+
+-- src/lib.rt:133:13
+merge-requires : tie.Need-merge-requires Inv-loop μ-loop
+merge-requires c κs = ?
+
+-- src/lib.rt:134:19
+array-read-met : tie.Need-array-read-met Inv-loop μ-loop
+array-read-met c = ?
+
+-- src/lib.rt:135:9
+array-write-seen : tie.Need-array-write-seen Inv-loop μ-loop
+array-write-seen c = ?
+
+-- src/lib.rt:136:9
+mul-joined : tie.Need-mul-joined Inv-loop μ-loop
+mul-joined c = ?
+
+-- src/lib.rt:136:9
+array-set-from-joined : tie.Need-array-set-from-joined Inv-loop μ-loop
+array-set-from-joined c = ?
+
+-- src/lib.rt:138:13
+add-k-2 : tie.Need-add-k-2 Inv-loop μ-loop
+add-k-2 c = ?
+
+-- src/lib.rt:125:5
+loop-less-2 : tie.Need-loop-less-2 Inv-loop μ-loop
+loop-less-2 c = ?
+
+-- src/lib.rt:125:5
+loop-again-2 : tie.Need-loop-again-2 Inv-loop μ-loop
+loop-again-2 c = ?
+
+-- src/lib.rt:140:12
+passes-requires : tie.Need-passes-requires Inv-loop μ-loop
+passes-requires c κs = ?
+
+-- src/lib.rt:141:13
+returns : tie.Need-returns Inv-loop μ-loop
+returns c = ?
+
+-- src/lib.rt:125:9
+add-k-3 : tie.Need-add-k-3 Inv-loop μ-loop
+add-k-3 c = ?
+
+-- src/lib.rt:125:5
+loop-less-3 : tie.Need-loop-less-3 Inv-loop μ-loop
+loop-less-3 c = ?
+
+-- src/lib.rt:125:5
+loop-again-3 : tie.Need-loop-again-3 Inv-loop μ-loop
+loop-again-3 c = ?
+
+-- src/lib.rt:111:1
+returns-2 : tie.Need-returns-2 Inv-loop μ-loop
+returns-2 c = ?
+
+pub meets-spec : {M : Type 1} → statement M
+meets-spec =
+    tie.close
+    (tie.spec
+    Inv-loop
+    μ-loop
+    loop-holds
+    element-copy-out-node
+    towards-requires
+    add-k
+    loop-less
+    loop-again
+    wide-requires
+    wide-requires-2
+    mul-merge
+    array-copy-out-merge
+    mul-merge-2
+    element-copy-out-merge
+    merge-requires
+    array-read-met
+    array-write-seen
+    mul-joined
+    array-set-from-joined
+    add-k-2
+    loop-less-2
+    loop-again-2
+    passes-requires
+    returns
+    add-k-3
+    loop-less-3
+    loop-again-3
+    returns-2)
