@@ -1,3 +1,4 @@
 pub mod Turns
 pub mod Meetings
 pub mod Tied
+pub mod Ancestors

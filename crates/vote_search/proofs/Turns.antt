@@ -86,9 +86,10 @@ unfolding fold
 noted-all f [] l = omega arith
 noted-all f (h ∷ hs) l = omega (arith, noted-all f hs (note (f h) l), noted (f h) l)
 
-pub length-found : (up above : ℕ → ℕ) (n : ℕ) (heads : List ℕ) (b : ℕ) → length (found up above (front n heads) b) ≤ n
+pub found-few : (up above : ℕ → ℕ) (n : ℕ) (heads : List ℕ) (b : ℕ) (m : Places) → m ≡ placed (found up above (front n heads) b) → m .count ≤ n
 unfolding found
-length-found up above n heads b = omega (arith, noted-all (held up above b) (front n heads) [], length-front n heads)
+found-few up above n heads b m e =
+    omega (arith, placed-count m _ e, noted-all (held up above b) (front n heads) [], length-front n heads)
 
 -- the first that passes
 module _ (p : ℕ → Bool) where
