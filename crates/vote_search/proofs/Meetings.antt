@@ -54,62 +54,65 @@ module _ (up : ℕ → ℕ) (bits : ℕ → List ℕ) (b : ℕ) where
   more-not-nil [] x = refl
   more-not-nil (y ∷ l) x = refl
 
-  pub kept-more : (l : List ℕ) (seen : List Bool) (sums : List (List ℕ)) (c x : ℕ) → c < 256 → c ≡ towards up b x → Kept l seen sums
-      → Kept (l ++ (x ∷ [])) (set seen c true) (set sums c (joined (getD sums c []) (bits x)))
-  kept-more l seen sums c x small e k =
-      record {
-        seen-size = simp length-set (k .seen-size);
-        sums-size = simp length-set (k .sums-size);
-        marked = λ d h. mark d h (ℕ-discrete d c);
-        summed = λ d h. sum d h (ℕ-discrete d c);
-      }
-    where
-      mark : (d : ℕ) → d < 256 → Dec (d ≡ c) → getD (set seen c true) d false ≡ not (is-nil (going d (l ++ (x ∷ []))))
-      mark d h (yes q) =
-          rw (q, going-here c x l (sym e), getD-set-same seen c true false (omega (arith, k .seen-size))) (more-not-nil (going c l) x)
-      mark d h (no q) =
-          getD-set-other seen c d true false q ∙ k .marked d h ∙ ap (λ (m : List ℕ). not (is-nil m)) (sym (going-other d x l (λ z. q (sym z ∙ sym e))))
+  -- at the node x, which goes to the child c: the bits v with those of x joined in
+  module _ (l : List ℕ) (seen : List Bool) (sums : List (List ℕ)) (kept : Kept l seen sums) (c x : ℕ) (small : c < 256) (e : c ≡ towards up b x)
+      (v : List ℕ) (joins : v ≡ joined (getD sums c []) (bits x)) where
+    total : v ≡ join-of bits (going c l ++ (x ∷ []))
+    total = joins ∙ ap (λ (w : List ℕ). joined w (bits x)) (kept .summed c small) ∙ sym (join-more bits (going c l) x)
 
-      sum : (d : ℕ) → d < 256 → Dec (d ≡ c) → getD (set sums c (joined (getD sums c []) (bits x))) d [] ≡ join-of bits (going d (l ++ (x ∷ [])))
-      sum d h (yes q) =
-          rw (q, going-here c x l (sym e), getD-set-same sums c (joined (getD sums c []) (bits x)) [] (omega (arith, k .sums-size)))
-          (ap (λ (v : List ℕ). joined v (bits x)) (k .summed c small) ∙ sym (join-more bits (going c l) x))
-      sum d h (no q) =
-          getD-set-other sums c d (joined (getD sums c []) (bits x)) [] q ∙ k .summed d h
-          ∙ ap (join-of bits) (sym (going-other d x l (λ z. q (sym z ∙ sym e))))
+    pub kept-more : Kept (l ++ (x ∷ [])) (set seen c true) (set sums c v)
+    kept-more =
+        record {
+          seen-size = simp length-set (kept .seen-size);
+          sums-size = simp length-set (kept .sums-size);
+          marked = λ d h. mark d h (ℕ-discrete d c);
+          summed = λ d h. sum d h (ℕ-discrete d c);
+        }
+      where
+        mark : (d : ℕ) → d < 256 → Dec (d ≡ c) → getD (set seen c true) d false ≡ not (is-nil (going d (l ++ (x ∷ []))))
+        mark d h (yes q) =
+            rw (q, going-here c x l (sym e), getD-set-same seen c true false (omega (arith, kept .seen-size))) (more-not-nil (going c l) x)
+        mark d h (no q) =
+            getD-set-other seen c d true false q ∙ kept .marked d h
+            ∙ ap (λ (m : List ℕ). not (is-nil m)) (sym (going-other d x l (λ z. q (sym z ∙ sym e))))
+
+        sum : (d : ℕ) → d < 256 → Dec (d ≡ c) → getD (set sums c v) d [] ≡ join-of bits (going d (l ++ (x ∷ [])))
+        sum d h (yes q) = rw (q, going-here c x l (sym e), getD-set-same sums c v [] (omega (arith, kept .sums-size))) total
+        sum d h (no q) =
+            getD-set-other sums c d v [] q ∙ kept .summed d h ∙ ap (join-of bits) (sym (going-other d x l (λ z. q (sym z ∙ sym e))))
+
+    -- the ways through a turn, the nodes ns to come
+    module _ (ok : List ℕ → Bool) (ns : List ℕ) (d : x ≢ c) where
+      other : eqb x (towards up b x) ≡ false
+      other = ne-eqb x (towards up b x) (λ q. d (q ∙ sym e))
+
+      nil : (z : Bool) → getD seen c false ≡ z → is-nil (going (towards up b x) l) ≡ not z
+      nil z q = rw (← e) (flip (is-nil (going c l)) z (sym q ∙ kept .marked c small))
+        where
+          flip : (a z : Bool) → z ≡ not a → a ≡ not z
+          flip true z r = ap not (sym r)
+          flip false z r = ap not (sym r)
+
+      asked : (z : Bool) → ok v ≡ z → ok (join-of bits (going (towards up b x) l ++ (x ∷ []))) ≡ z
+      asked z r = rw (← e) (sym (ap ok total) ∙ r)
+
+      pub meets-first : getD seen c false ≡ false → meets up bits ok b l (x ∷ ns) ≡ meets up bits ok b (l ++ (x ∷ [])) ns
+      unfolding meets
+      meets-first q = rw (other, nil false q)
+
+      pub meets-here : getD seen c false ≡ true → ok v ≡ true → meets up bits ok b l (x ∷ ns) ≡ c
+      unfolding meets
+      meets-here q r = rw (other, nil true q, asked true r) (sym e)
+
+      pub meets-on : getD seen c false ≡ true → ok v ≡ false → meets up bits ok b l (x ∷ ns) ≡ meets up bits ok b (l ++ (x ∷ [])) ns
+      unfolding meets
+      meets-on q r = rw (other, nil true q, asked false r)
 
   module _ (ok : List ℕ → Bool) where
-    -- one turn, at the node x with the nodes ns to come
-    module _ (l ns : List ℕ) (x : ℕ) where
-      pub meets-child : x ≡ towards up b x → meets up bits ok b l (x ∷ ns) ≡ meets up bits ok b l ns
-      unfolding meets
-      meets-child e = rw (eq-eqb x (towards up b x) e)
-
-      module _ (seen : List Bool) (sums : List (List ℕ)) (k : Kept l seen sums) (c : ℕ) (small : c < 256) (e : c ≡ towards up b x) (d : x ≢ c) where
-        nil : (z : Bool) → getD seen c false ≡ z → is-nil (going (towards up b x) l) ≡ not z
-        nil z q = rw (← e) (flip (is-nil (going c l)) z (sym q ∙ k .marked c small))
-          where
-            flip : (a z : Bool) → z ≡ not a → a ≡ not z
-            flip true z r = ap not (sym r)
-            flip false z r = ap not (sym r)
-
-        other : eqb x (towards up b x) ≡ false
-        other = ne-eqb x (towards up b x) (λ q. d (q ∙ sym e))
-
-        total : joined (getD sums c []) (bits x) ≡ join-of bits (going (towards up b x) l ++ (x ∷ []))
-        total = rw (← e) (ap (λ (v : List ℕ). joined v (bits x)) (k .summed c small) ∙ sym (join-more bits (going c l) x))
-
-        pub meets-first : getD seen c false ≡ false → meets up bits ok b l (x ∷ ns) ≡ meets up bits ok b (l ++ (x ∷ [])) ns
-        unfolding meets
-        meets-first q = rw (other, nil false q)
-
-        pub meets-here : getD seen c false ≡ true → ok (joined (getD sums c []) (bits x)) ≡ true → meets up bits ok b l (x ∷ ns) ≡ c
-        unfolding meets
-        meets-here q r = rw (other, nil true q, sym (ap ok total) ∙ r) (sym e)
-
-        pub meets-on : getD seen c false ≡ true → ok (joined (getD sums c []) (bits x)) ≡ false → meets up bits ok b l (x ∷ ns) ≡ meets up bits ok b (l ++ (x ∷ [])) ns
-        unfolding meets
-        meets-on q r = rw (other, nil true q, sym (ap ok total) ∙ r)
+    -- a node that is the child itself
+    pub meets-child : (l ns : List ℕ) (x : ℕ) → x ≡ towards up b x → meets up bits ok b l (x ∷ ns) ≡ meets up bits ok b l ns
+    unfolding meets
+    meets-child l ns x e = rw (eq-eqb x (towards up b x) e)
 
     pub meets-end : (l : List ℕ) → meets up bits ok b l [] ≡ 0
     unfolding meets

@@ -63,10 +63,10 @@ loop-less c = omega (arith, c .before .before .before .before .before .loop-test
 -- src/lib.rt:98:5
 loop-again : tie.Need-loop-again Inv-loop μ-loop
 loop-again c = (
-    omega (arith, c .before .before .before .before .before .loop-test .taken),
-    c .before .before .before .before .before .before .loop .inv .1 ∙ first-next _ _ _ _ (c .before .before .before .before .before .loop-test .taken)
-        (ap (λ (x : ℕ). passes (c .before .before .before .before .before .before .before .args .weights .now) (c .before .before .before .before .before .before .before .args .question) (row (c .before .before .before .before .before .before .before .args .rows .now) x)) (sym (c .before .before .before .wide .ensures .0)) ∙ sym (c .before .passes .ensures) ∙ c .if1 .left),
-    )
+  omega (arith, c .before .before .before .before .before .loop-test .taken),
+  c .before .before .before .before .before .before .loop .inv .1 ∙ first-next _ _ _ _ (c .before .before .before .before .before .loop-test .taken)
+      (ap (λ (x : ℕ). passes (c .before .before .before .before .before .before .before .args .weights .now) (c .before .before .before .before .before .before .before .args .question) (row (c .before .before .before .before .before .before .before .args .rows .now) x)) (sym (c .before .before .before .wide .ensures .0)) ∙ sym (c .before .passes .ensures) ∙ c .if1 .left),
+)
 
 -- src/lib.rt:88:1
 returns-2 : tie.Need-returns-2 Inv-loop μ-loop

@@ -54,11 +54,11 @@ loop-less c = omega (arith, c .before .before .before .loop-test .taken)
 -- src/lib.rt:125:5
 loop-again : tie.Need-loop-again Inv-loop μ-loop
 loop-again c = (
-    omega (arith, c .before .before .before .loop-test .taken),
-    c .before .before .before .before .loop .inv .1,
-    c .before .before .before .before .loop .inv .2,
-    c .before .before .before .before .loop .inv .3 ∙ ap (meets _ _ _ _ (c .before .before .before .before .loop .inv .1)) (rest-next _ _ _ (c .before .before .before .loop-test .taken)) ∙ meets-child _ _ _ _ _ _ _ (c .if1 .taken ∙ c .before .towards .ensures),
-    )
+  omega (arith, c .before .before .before .loop-test .taken),
+  c .before .before .before .before .loop .inv .1,
+  c .before .before .before .before .loop .inv .2,
+  c .before .before .before .before .loop .inv .3 ∙ ap (meets _ _ _ _ (c .before .before .before .before .loop .inv .1)) (rest-next _ _ _ (c .before .before .before .loop-test .taken)) ∙ meets-child _ _ _ _ _ _ _ (c .if1 .taken ∙ c .before .towards .ensures),
+)
 
 -- src/lib.rt:131:13
 wide-requires : tie.Need-wide-requires Inv-loop μ-loop
@@ -114,7 +114,17 @@ loop-less-2 c = omega (arith, c .before .before .before .before .before .before 
 
 -- src/lib.rt:125:5
 loop-again-2 : tie.Need-loop-again-2 Inv-loop μ-loop
-loop-again-2 c = ?
+loop-again-2 c =
+    let ps = c .before .before .before .before .before .before .before .before .before .before .before .args .parents .now in
+    let rows = c .before .before .before .before .before .before .before .before .before .before .before .args .rows .now in
+    let goes = c .before .before .before .before .before .wide .ensures .0 ∙ c .before .before .before .before .before .before .before .towards .ensures in
+    let joins = c .before .merge .ensures ∙ ap (λ (j : ℕ). joined (getD (c .before .before .before .before .before .before .before .before .before .before .loop .joined) (c .before .before .before .before .before .wide .result) []) (row rows j)) (c .before .before .before .before .wide2 .ensures .0) in (
+      omega (arith, c .before .before .before .before .before .before .before .before .before .loop-test .taken),
+      c .before .before .before .before .before .before .before .before .before .before .loop .inv .1 ++ (getD (c .before .before .before .before .before .before .before .before .before .before .before .args .places .now) (c .before .before .before .before .before .before .before .before .before .before .loop .k) 0 ∷ []),
+      kept-more (col ps) (row rows) _ _ _ _ (c .before .before .before .before .before .before .before .before .before .before .loop .inv .2) _ _ (c .before .before .before .before .before .wide .ensures .1) goes _ joins,
+      c .before .before .before .before .before .before .before .before .before .before .loop .inv .3 ∙ ap (meets _ _ _ _ (c .before .before .before .before .before .before .before .before .before .before .loop .inv .1)) (rest-next _ _ _ (c .before .before .before .before .before .before .before .before .before .loop-test .taken))
+          ∙ meets-first (col ps) (row rows) _ _ _ _ (c .before .before .before .before .before .before .before .before .before .before .loop .inv .2) _ _ (c .before .before .before .before .before .wide .ensures .1) goes _ joins _ _ (λ q. c .before .before .before .before .before .before .if1 .left (q ∙ c .before .before .before .before .before .wide .ensures .0)) (not-true _ (c .if2 .taken)),
+    )
 
 -- src/lib.rt:140:12
 passes-requires : tie.Need-passes-requires Inv-loop μ-loop
@@ -122,7 +132,13 @@ passes-requires c κs = search needs
 
 -- src/lib.rt:141:13
 returns : tie.Need-returns Inv-loop μ-loop
-returns c = ?
+returns c =
+    let ps = c .before .before .before .before .before .before .before .before .before .before .before .before .before .args .parents .now in
+    let rows = c .before .before .before .before .before .before .before .before .before .before .before .before .before .args .rows .now in
+    let goes = c .before .before .before .before .before .before .before .wide .ensures .0 ∙ c .before .before .before .before .before .before .before .before .before .towards .ensures in
+    let joins = c .before .before .before .merge .ensures ∙ ap (λ (j : ℕ). joined (getD (c .before .before .before .before .before .before .before .before .before .before .before .before .loop .joined) (c .before .before .before .before .before .before .before .wide .result) []) (row rows j)) (c .before .before .before .before .before .before .wide2 .ensures .0) in
+    sym (c .before .before .before .before .before .before .before .wide .ensures .0) ∙ sym (c .before .before .before .before .before .before .before .before .before .before .before .before .loop .inv .3 ∙ ap (meets _ _ _ _ (c .before .before .before .before .before .before .before .before .before .before .before .before .loop .inv .1)) (rest-next _ _ _ (c .before .before .before .before .before .before .before .before .before .before .before .loop-test .taken))
+    ∙ meets-here (col ps) (row rows) _ _ _ _ (c .before .before .before .before .before .before .before .before .before .before .before .before .loop .inv .2) _ _ (c .before .before .before .before .before .before .before .wide .ensures .1) goes _ joins _ _ (λ q. c .before .before .before .before .before .before .before .before .if1 .left (q ∙ c .before .before .before .before .before .before .before .wide .ensures .0)) (not-false _ (c .before .before .if2 .left)) (sym (c .before .passes .ensures) ∙ c .if3 .taken))
 
 -- src/lib.rt:125:9
 add-k-3 : tie.Need-add-k-3 Inv-loop μ-loop
@@ -134,7 +150,17 @@ loop-less-3 c = omega (arith, c .before .before .before .before .before .before 
 
 -- src/lib.rt:125:5
 loop-again-3 : tie.Need-loop-again-3 Inv-loop μ-loop
-loop-again-3 c = ?
+loop-again-3 c =
+    let ps = c .before .before .before .before .before .before .before .before .before .before .before .before .before .args .parents .now in
+    let rows = c .before .before .before .before .before .before .before .before .before .before .before .before .before .args .rows .now in
+    let goes = c .before .before .before .before .before .before .before .wide .ensures .0 ∙ c .before .before .before .before .before .before .before .before .before .towards .ensures in
+    let joins = c .before .before .before .merge .ensures ∙ ap (λ (j : ℕ). joined (getD (c .before .before .before .before .before .before .before .before .before .before .before .before .loop .joined) (c .before .before .before .before .before .before .before .wide .result) []) (row rows j)) (c .before .before .before .before .before .before .wide2 .ensures .0) in (
+      omega (arith, c .before .before .before .before .before .before .before .before .before .before .before .loop-test .taken),
+      c .before .before .before .before .before .before .before .before .before .before .before .before .loop .inv .1 ++ (getD (c .before .before .before .before .before .before .before .before .before .before .before .before .before .args .places .now) (c .before .before .before .before .before .before .before .before .before .before .before .before .loop .k) 0 ∷ []),
+      kept-more (col ps) (row rows) _ _ _ _ (c .before .before .before .before .before .before .before .before .before .before .before .before .loop .inv .2) _ _ (c .before .before .before .before .before .before .before .wide .ensures .1) goes _ joins,
+      c .before .before .before .before .before .before .before .before .before .before .before .before .loop .inv .3 ∙ ap (meets _ _ _ _ (c .before .before .before .before .before .before .before .before .before .before .before .before .loop .inv .1)) (rest-next _ _ _ (c .before .before .before .before .before .before .before .before .before .before .before .loop-test .taken))
+          ∙ meets-on (col ps) (row rows) _ _ _ _ (c .before .before .before .before .before .before .before .before .before .before .before .before .loop .inv .2) _ _ (c .before .before .before .before .before .before .before .wide .ensures .1) goes _ joins _ _ (λ q. c .before .before .before .before .before .before .before .before .if1 .left (q ∙ c .before .before .before .before .before .before .before .wide .ensures .0)) (not-false _ (c .before .before .if2 .left)) (sym (c .before .passes .ensures) ∙ c .if3 .left),
+    )
 
 -- src/lib.rt:111:1
 returns-2 : tie.Need-returns-2 Inv-loop μ-loop
