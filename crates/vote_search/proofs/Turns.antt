@@ -105,9 +105,12 @@ module _ (p : ℕ → Bool) where
   unfolding first-in
   first-end n k xs h = rw (rest-end n k xs h)
 
-  pub first-listed : (l : List ℕ) → first-in p l ≢ 0 → 0 < times (first-in p l) l
+  first-times : (l : List ℕ) → first-in p l ≢ 0 → 0 < times (first-in p l) l
   unfolding first-in
-  first-listed [] = λ d. absurd (d refl)
-  first-listed (x ∷ l) =
+  first-times [] = λ d. absurd (d refl)
+  first-times (x ∷ l) =
       by-test (λ (y : ℕ). y ≢ 0 → 0 < times y (x ∷ l)) (p x) x (first-in p l) (λ t d. omega (arith, times-here x l))
-      (λ t d. times-more (first-in p l) x l (first-listed l d))
+      (λ t d. times-more (first-in p l) x l (first-times l d))
+
+  pub first-listed : (l : List ℕ) (c : ℕ) → c ≡ first-in p l → c ≢ 0 → 0 < times c l
+  first-listed l c e d = rw e (first-times l (λ q. d (e ∙ q)))

@@ -3,11 +3,12 @@ use mathlib.Core.Bool.{Bool, true, cond, not}
 use mathlib.Core.List.{List, []}
 use Prim.Native.Nat.{ℕ, _<_}
 use lib.Dec.{T}
-use Rattle.loops.specs.Listing.{front, times}
+use Rattle.loops.specs.Listing.{front, times, keep}
 use Rattle.grandpa.specs.Tree.{below}
+use Rattle.graph.specs.Search.{nearest}
 use Rattle.graph.specs.Graph.{Graph, join-of}
 use Rattle.graph.specs.Ghost.{is-nil, under}
-use Rattle.nodes.specs.Nodes.{col, flag, row, found}
+use Rattle.nodes.specs.Nodes.{col, flag, row, found, listed-under}
 use Rattle.nodes.specs.Columns.{Columns, Sound}
 use Rattle.vote_search.specs.declared.Tally.{Tally}
 
@@ -18,6 +19,11 @@ tallied parents used above rows heads tips b =
     let ns = found (col parents) (col above) (front tips heads) b in
     cond (flag used b) (record { inside = true; bits = row rows b })
     (record { inside = not (is-nil ns); bits = join-of (row rows) ns })
+
+-- the nodes that follow a block, by the nodes above. `followed-is` says that they are `following`.
+unfoldable pub followed : List ℕ → List Bool → List ℕ → List ℕ → ℕ → ℕ → List ℕ
+followed parents used above order listed b =
+    keep (under (col parents) b) (listed-under (col above) (front listed order) (nearest (col parents) (flag used) b))
 
 -- a block of the table at or below the base, and columns that keep the shape rules
 pub record Stands (parents : List ℕ) (base : ℕ) (g : Columns) (block : ℕ) : Type 0 where
