@@ -27,7 +27,7 @@ use Rattle.nodes.specs.Columns.{Columns, Sound, view}
 use Rattle.vote_search.specs.declared.Tally.{Tally}
 use Rattle.vote_search.specs.Searches.{tallied, unlisted}
 use Rattle.vote_search.proofs.Turns.{placed-front, placed-count}
-use Rattle.vote_search.proofs.Tied.{found-is}
+use Rattle.nodes.proofs.Tied.{found-is}
 
 some-left : (l : List ℕ) → ltb 0 (length l) ≡ not (is-nil l)
 some-left [] = le-ltb 0 0 (omega arith)

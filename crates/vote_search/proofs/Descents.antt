@@ -27,7 +27,7 @@ use Rattle.vote_search.specs.Searches.{tallied, followed, Lower}
 use Rattle.vote_search.proofs.Turns.{placed-front, placed-count}
 use Rattle.vote_search.proofs.Meetings.{meets-at}
 use Rattle.vote_search.proofs.Ancestors.{tallied-is}
-use Rattle.vote_search.proofs.Tied.{listed-is}
+use Rattle.nodes.proofs.Tied.{listed-is}
 
 -- places kept are strictly below, and fewer
 pub lower-kept : (parents : List ℕ) (c : ℕ) (l : List ℕ) → Lower parents c (keep (under (col parents) c) l)

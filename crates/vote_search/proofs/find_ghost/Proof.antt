@@ -10,7 +10,7 @@ use Rattle.nodes.specs.Nodes.{col, row, passes}
 use Rattle.nodes.specs.Columns.{Columns, view, as-found}
 use Rattle.vote_search.specs.Searches.{Lower}
 use Rattle.vote_search.proofs.Turns.{placed-front, first-listed}
-use Rattle.vote_search.proofs.Tied.{listed-is}
+use Rattle.nodes.proofs.Tied.{listed-is}
 use Rattle.vote_search.proofs.Descents.{lower-past, listed-few, followed-few, settle-ends, settle-goes, followed-is, lower-following, lower-children, ghost-none, ghost-some}
 use Rattle.vote_search.proofs.find_ghost.Statement.{statement}
 use Rattle.vote_search.proofs.find_ghost.Tie as tie
