@@ -1,0 +1,5 @@
+pub mod Turns
+pub mod Meetings
+pub mod Ancestors
+pub mod Descents
+pub mod Questions

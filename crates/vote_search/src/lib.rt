@@ -1,1 +1,235 @@
 // `cumulative_vote`, `find_ancestor` and `find_ghost` of vote_graph.rs, on lent columns.
+ghost use mathlib.Core.Path.{_≡_};
+ghost use mathlib.Core.List.{List, []};
+ghost use Prim.Native.Nat.{ℕ, _≤_, _<_};
+ghost use lib.Dec.{T};
+ghost use Rattle.loops.specs.Listing.{front};
+ghost use Rattle.graph.specs.Ghost.{find-ancestor, first-in, meets, merge, find-ghost};
+ghost use Rattle.nodes.specs.Nodes.{col, row, Falls, placed, passes};
+ghost use Rattle.nodes.specs.Columns.{view, as-found};
+ghost use Rattle.vote_search.specs.Searches.{tallied, followed, Stands, unlisted, Lower};
+use nodes::Found;
+use nodes::Places;
+use nodes::Question;
+use nodes::wide;
+
+// A block's bits, and whether it is in the graph at all.
+pub struct Tally {
+    pub inside: bool,
+    pub bits: [u64; 2],
+}
+
+// Who voted at or below a block: its node's own bits, else those of the nodes whose edge holds it.
+pub fn cumulative_vote<'a>(
+    parents: &'a [u8; 256],
+    used: &'a [bool; 256],
+    above: &'a [u8; 256],
+    rows: &'a [[u64; 2]; 256],
+    heads: &'a [u8; 256],
+    tips: usize,
+    block: u8,
+) -> Tally
+    requires { ⌜ (Falls (now parents)) × (Falls (now above)) × (tips ≤ 256) ⌝ }
+    ensures { λ r. ⌜ r ≡ tallied (now (parents .entry)) (now (used .entry)) (now (above .entry)) (now (rows .entry)) (now (heads .entry)) tips block ⌝ }
+{
+    let at = wide(block);
+    if used[at] {
+        let own = rows[at];
+        return Tally {
+            inside: true,
+            bits: own,
+        };
+    }
+    let nodes = nodes::find_containing_nodes(parents, above, heads, tips, block);
+    let places = nodes.places;
+    let count = nodes.count;
+    let joined = nodes::join_of(rows, &places, count);
+    Tally {
+        inside: 0 < count,
+        bits: joined,
+    }
+}
+
+// The first block from a block towards the base whose bits answer a question with yes.
+pub fn find_ancestor<'a>(
+    parents: &'a [u8; 256],
+    used: &'a [bool; 256],
+    above: &'a [u8; 256],
+    rows: &'a [[u64; 2]; 256],
+    heads: &'a [u8; 256],
+    tips: usize,
+    weights: &'a [u64; 64],
+    base: u8,
+    question: Question,
+    block: u8,
+) -> Found
+    requires { ⌜ ((order : List ℕ) × (listed : ℕ) × Stands (now parents) base (record { used = now used; above = now above; rows = now rows; order = order; listed = listed; heads = now heads; tips = tips }) block) ⌝ }
+    ensures { λ r. ⌜ r ≡ as-found (find-ancestor (col (now (parents .entry))) (unlisted (now (used .entry)) (now (rows .entry)) (now (heads .entry)) tips) base (passes (now (weights .entry)) question) block) ⌝ }
+{
+    let mut at = block;
+    let found = loop {
+        let tally = cumulative_vote(parents, used, above, rows, heads, tips, at);
+        if !tally.inside {
+            break Found::Nothing;
+        }
+        let bits = tally.bits;
+        if nodes::passes(weights, question, bits) {
+            break Found::At(at);
+        }
+        if at == base {
+            break Found::Nothing;
+        }
+        at = parents[wide(at)];
+    };
+    found
+}
+
+// The first of some nodes whose bits answer a question with yes, or 0.
+pub fn first_passing<'a>(
+    rows: &'a [[u64; 2]; 256],
+    weights: &'a [u64; 64],
+    question: Question,
+    places: &'a [u8; 256],
+    count: usize,
+) -> u8
+    requires { ⌜ count ≤ 256 ⌝ }
+    ensures { λ r. ⌜ r ≡ first-in (λ n. passes (now (weights .entry)) question (row (now (rows .entry)) n)) (front count (now (places .entry))) ⌝ }
+{
+    for k in 0..count {
+        let node = places[k];
+        let at = wide(node);
+        let bits = rows[at];
+        if nodes::passes(weights, question, bits) {
+            return node;
+        }
+    }
+    0
+}
+
+// The first child of a block in which a second node meets those before it, where their joined bits answer a question with
+// yes, or 0.
+pub fn meets<'a>(
+    parents: &'a [u8; 256],
+    rows: &'a [[u64; 2]; 256],
+    weights: &'a [u64; 64],
+    question: Question,
+    places: &'a [u8; 256],
+    count: usize,
+    block: u8,
+) -> u8
+    requires { ⌜ (Falls (now parents)) × (count ≤ 256) ⌝ }
+    ensures { λ r. ⌜ r ≡ meets (col (now (parents .entry))) (row (now (rows .entry))) (passes (now (weights .entry)) question) block [] (front count (now (places .entry))) ⌝ }
+{
+    let mut seen = [false; 256];
+    let mut joined = [[0u64; 2]; 256];
+    for k in 0..count {
+        let node = places[k];
+        let child = nodes::towards(parents, block, node);
+        if node == child {
+            continue;
+        }
+        let at = wide(child);
+        let from = wide(node);
+        let bits = bitfield::merge(joined[at], rows[from]);
+        let met = seen[at];
+        seen[at] = true;
+        joined[at] = bits;
+        if !met {
+            continue;
+        }
+        if nodes::passes(weights, question, bits) {
+            return child;
+        }
+    }
+    0
+}
+
+// From a block down the blocks in which nodes meet, while their joined bits answer a question with yes. Fewer than two
+// nodes do not meet.
+pub fn merge_point<'a>(
+    parents: &'a [u8; 256],
+    rows: &'a [[u64; 2]; 256],
+    weights: &'a [u64; 64],
+    question: Question,
+    nodes: Places,
+    block: u8,
+) -> u8
+    requires { ⌜ (Falls (now parents)) × (nodes .count ≤ 256) × Lower (now parents) block (front (nodes .count) (nodes .places)) ⌝ }
+    ensures { λ r. ⌜ r ≡ merge (col (now (parents .entry))) (row (now (rows .entry))) (passes (now (weights .entry)) question) 256 block (front (nodes .count) (nodes .places)) ⌝ }
+{
+    let mut best = block;
+    let mut places = nodes.places;
+    let mut count = nodes.count;
+    while 1 < count {
+        let child = meets(parents, rows, weights, question, &places, count, best);
+        if child == 0 {
+            return best;
+        }
+        let fewer = nodes::strictly_below(parents, &places, count, child);
+        let kept = fewer.places;
+        places = kept;
+        count = fewer.count;
+        best = child;
+    }
+    best
+}
+
+// The nodes that follow a block: strictly below it, with no node between.
+fn following<'a>(
+    parents: &'a [u8; 256],
+    used: &'a [bool; 256],
+    above: &'a [u8; 256],
+    order: &'a [u8; 256],
+    listed: usize,
+    block: u8,
+) -> Places
+    requires { ⌜ (Falls (now parents)) × (listed ≤ 256) ⌝ }
+    ensures { λ r. ⌜ r ≡ placed (followed (now (parents .entry)) (now (used .entry)) (now (above .entry)) (now (order .entry)) listed block) ⌝ }
+{
+    let over = nodes::nearest(parents, used, block);
+    let nodes = nodes::children(above, order, listed, over);
+    let places = nodes.places;
+    let count = nodes.count;
+    nodes::strictly_below(parents, &places, count, block)
+}
+
+// From a block down the nodes that answer a question with yes, the first of each list, and then to the merge point.
+// Nothing where the block itself does not.
+pub fn find_ghost<'a>(
+    parents: &'a [u8; 256],
+    used: &'a [bool; 256],
+    above: &'a [u8; 256],
+    rows: &'a [[u64; 2]; 256],
+    order: &'a [u8; 256],
+    listed: usize,
+    heads: &'a [u8; 256],
+    tips: usize,
+    weights: &'a [u64; 64],
+    question: Question,
+    block: u8,
+) -> Found
+    requires { ⌜ ((base : ℕ) × Stands (now parents) base (record { used = now used; above = now above; rows = now rows; order = now order; listed = listed; heads = now heads; tips = tips }) block) ⌝ }
+    ensures { λ r. ⌜ r ≡ as-found (find-ghost (col (now (parents .entry))) (view (record { used = now (used .entry); above = now (above .entry); rows = now (rows .entry); order = now (order .entry); listed = listed; heads = now (heads .entry); tips = tips })) (passes (now (weights .entry)) question) block) ⌝ }
+{
+    let start = cumulative_vote(parents, used, above, rows, heads, tips, block);
+    let bits = start.bits;
+    if !nodes::passes(weights, question, bits) {
+        return Found::Nothing;
+    }
+    let follow = following(parents, used, above, order, listed, block);
+    let mut at = block;
+    let mut places = follow.places;
+    let mut count = follow.count;
+    loop {
+        let child = first_passing(rows, weights, question, &places, count);
+        if child == 0 {
+            let nodes = Places { places, count };
+            return Found::At(merge_point(parents, rows, weights, question, nodes, at));
+        }
+        let next = nodes::children(above, order, listed, child);
+        let lower = next.places;
+        places = lower;
+        count = next.count;
+        at = child;
+    }
+}

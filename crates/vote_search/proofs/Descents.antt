@@ -1,0 +1,129 @@
+-- The nodes that follow a block by the columns, and the turns of the search down.
+use mathlib.Core.Bool.{Bool, true, false, cond, not}
+use mathlib.Core.List.{List, [], _∷_}
+use mathlib.Core.Option.{Option, none, some}
+use mathlib.Core.Path.{_≡_, refl, sym, ap, subst, _∙_}
+use mathlib.Core.Logic.{_≢_}
+use Prim.Native.Nat.{ℕ, zero, suc, pred, _≤_, _<_}
+use native.Mathlib.Omega.{arith}
+use lib.Dec.{T, eqb, eqb→eq}
+use lib.ListN.{length}
+use borrow.Author.Tests.{eq-eqb, ne-eqb}
+use Rattle.loops.specs.Listing.{times, keep, front}
+use Rattle.loops.proofs.Listings.{kept-in}
+use Rattle.grandpa.specs.Tree.{below}
+use Rattle.grandpa.proofs.Trees.{below-up, below-trans, below-le, below-step, child-below}
+use Rattle.graph.specs.Search.{nearest}
+use Rattle.graph.specs.Graph.{Graph, tally, children}
+use Rattle.graph.specs.Ghost.{under, towards, first-in, meets, merge, settle, following, find-ghost}
+use Rattle.graph.proofs.Climbs.{nearest-says}
+use Rattle.graph.proofs.Followed.{under-is, is-under, towards-says}
+use Rattle.nodes.specs.declared.Places.{Places}
+use Rattle.nodes.specs.Nodes.{col, flag, row, Falls, placed, listed-under}
+use Rattle.nodes.specs.Columns.{Columns, Sound, view}
+use Rattle.nodes.proofs.Lists.{length-kept, length-keep}
+use Rattle.vote_search.specs.declared.Tally.{Tally}
+use Rattle.vote_search.specs.Searches.{tallied, followed, Lower}
+use Rattle.vote_search.proofs.Turns.{placed-front, placed-count}
+use Rattle.vote_search.proofs.Meetings.{meets-at}
+use Rattle.vote_search.proofs.Ancestors.{tallied-is}
+use Rattle.nodes.proofs.Tied.{listed-is}
+
+-- places kept are strictly below, and fewer
+pub lower-kept : (parents : List ℕ) (c : ℕ) (l : List ℕ) → Lower parents c (keep (under (col parents) c) l)
+lower-kept parents c l n h = kept-in (under (col parents) c) n l h .1
+
+pub lower-past : (parents : List ℕ) → Falls parents → (b n : ℕ) (l : List ℕ) → Lower parents b l → 0 < times n l → b < n
+lower-past parents falls b n l lower h =
+    let r = under-is (col parents) falls b n (lower n h) in
+    omega (arith, below-le (col parents) falls b n (r .0), r .1)
+
+pub kept-few : (p : ℕ → Bool) (k : ℕ) (xs : List ℕ) (m : Places) → m ≡ placed (keep p (front k xs)) → m .count ≤ k
+kept-few p k xs m e = omega (arith, placed-count m _ e, length-kept p k xs)
+
+length-listed : (above : ℕ → ℕ) (k : ℕ) (xs : List ℕ) (x : ℕ) → length (listed-under above (front k xs) x) ≤ k
+unfolding listed-under
+length-listed above k xs x = length-kept (λ n. eqb (above n) x) k xs
+
+pub listed-few : (above : ℕ → ℕ) (k : ℕ) (xs : List ℕ) (x : ℕ) (m : Places) → m ≡ placed (listed-under above (front k xs) x) → m .count ≤ k
+listed-few above k xs x m e = omega (arith, placed-count m _ e, length-listed above k xs x)
+
+pub followed-few : (parents : List ℕ) (used : List Bool) (above order : List ℕ) (listed b : ℕ) (m : Places)
+    → m ≡ placed (followed parents used above order listed b) → m .count ≤ listed
+unfolding followed
+followed-few parents used above order listed b m e =
+    omega (
+      arith,
+      placed-count m _ e,
+      length-keep (under (col parents) b) (listed-under (col above) (front listed order) (nearest (col parents) (flag used) b)),
+      length-listed (col above) listed order (nearest (col parents) (flag used) b),
+    )
+
+-- the two calls that find what follows
+pub followed-by : (parents : List ℕ) (used : List Bool) (above order : List ℕ) (listed b over : ℕ) (m k : Places) → over ≡ nearest (col parents) (flag used) b
+    → m ≡ placed (listed-under (col above) (front listed order) over) → k ≡ placed (keep (under (col parents) b) (front (m .count) (m .places)))
+    → k ≡ placed (followed parents used above order listed b)
+unfolding followed
+followed-by parents used above order listed b over m k e p q =
+    q ∙ ap (λ (l : List ℕ). placed (keep (under (col parents) b) l)) (placed-front m _ p ∙ ap (listed-under (col above) (front listed order)) e)
+
+-- the child in which nodes meet is below
+pub meets-past : (parents : List ℕ) → Falls parents → (bits : ℕ → List ℕ) (ok : List ℕ → Bool) (b : ℕ) (ns : List ℕ) → Lower parents b ns
+    → (c : ℕ) → c ≡ meets (col parents) bits ok b [] ns → c ≢ 0 → b < c
+meets-past parents falls bits ok b ns lower c e d =
+    let r = meets-at (col parents) bits b ok ns [] (λ q. d (e ∙ q)) in
+    let s = child-below (col parents) falls b (towards (col parents) b (r .0)) (towards-says (col parents) falls b (r .0) (lower (r .0) (r .1)) .0) in
+    omega (arith, below-le (col parents) falls b _ (s .0), s .1, r .2, e)
+
+-- the turns of the search down
+module _ (up : ℕ → ℕ) (g : Graph) (ok : List ℕ → Bool) (f b : ℕ) (ns : List ℕ) (left : 0 < f) (c : ℕ) (told : c ≡ first-in (λ n. ok (g .bits n)) ns) where
+  pub settle-ends : c ≡ 0 → settle up g ok f b ns ≡ merge up (g .bits) ok 256 b ns
+  settle-ends e = go f left
+    where
+      go : (f : ℕ) → 0 < f → settle up g ok f b ns ≡ merge up (g .bits) ok 256 b ns
+      go zero h = absurd (omega arith)
+      go (suc f) h = unfold settle in rw (← told, eq-eqb c 0 e)
+
+  pub settle-goes : c ≢ 0 → settle up g ok f b ns ≡ settle up g ok (pred f) c (children up g c)
+  settle-goes d = go f left
+    where
+      go : (f : ℕ) → 0 < f → settle up g ok f b ns ≡ settle up g ok (pred f) c (children up g c)
+      go zero h = absurd (omega arith)
+      go (suc f) h = unfold settle in rw (← told, ne-eqb c 0 d)
+
+module _ (parents ids : List ℕ) (base count : ℕ) (g : Columns) (sound : Sound parents ids base count g) where
+  pub followed-is : (b : ℕ) → followed parents (g .used) (g .above) (g .order) (g .listed) b ≡ following (col parents) (view g) b
+  unfolding followed following
+  followed-is b = ap (keep (under (col parents) b)) (listed-is parents ids base count g sound (nearest (col parents) (flag (g .used)) b))
+
+  pub lower-following : (b : ℕ) → Lower parents b (following (col parents) (view g) b)
+  unfolding following
+  lower-following b = lower-kept parents b (children (col parents) (view g) (nearest (col parents) (flag (g .used)) b))
+
+  pub lower-children : (x : ℕ) → Lower parents x (children (col parents) (view g) x)
+  unfolding children
+  lower-children x n h =
+      let up = col parents in
+      let falls = sound .parents-fall in
+      let k = kept-in (λ n. eqb (nearest up (flag (g .used)) (up n)) x) n (front (g .listed) (g .order)) h in
+      let r = sound .nodes .list-only n (k .0) in
+      let inside = sound .nodes .inside n (r .0) in
+      let near = nearest-says up falls (flag (g .used)) base (sound .nodes .base-used) (up n) (below-step up falls base n inside (λ z. r .1 (sym z))) in
+      let l : T (below up x (up n)) = subst (λ (z : ℕ). T (below up z (up n))) (eqb→eq _ x (k .1)) (near .above) in
+      is-under up falls x n (below-trans up falls x (up n) n l (below-up up falls n))
+      (λ e. omega (arith, below-le up falls x (up n) l, falls n, below-le up falls base n inside, r .1))
+
+  -- the two ends of `find_ghost`
+  module _ (ok : List ℕ → Bool) (b : ℕ) (l : T (below (col parents) base b)) (v : Tally)
+      (told : v ≡ tallied parents (g .used) (g .above) (g .rows) (g .heads) (g .tips) b) where
+    asked : (z : Bool) → ok (v .bits) ≡ z → ok (tally (col parents) (view g) b) ≡ z
+    asked z e = ap ok (sym (tallied-is parents ids base count g sound b l) ∙ sym (ap (λ (t : Tally). t .bits) told)) ∙ e
+
+    pub ghost-none : ok (v .bits) ≡ false → find-ghost (col parents) (view g) ok b ≡ none
+    unfolding find-ghost
+    ghost-none e = rw (asked false e)
+
+    pub ghost-some : ok (v .bits) ≡ true → (r : ℕ) → r ≡ settle (col parents) (view g) ok 256 b (following (col parents) (view g) b)
+        → find-ghost (col parents) (view g) ok b ≡ some r
+    unfolding find-ghost
+    ghost-some e r q = rw (asked true e, ← q)

@@ -1,0 +1,42 @@
+-- `cumulative_vote` on lent columns, and what the searches ask of the columns that are lent to them.
+use mathlib.Core.Bool.{Bool, true, cond, not}
+use mathlib.Core.List.{List, []}
+use Prim.Native.Nat.{ℕ, _<_}
+use lib.Dec.{T}
+use Rattle.loops.specs.Listing.{front, times, keep}
+use Rattle.grandpa.specs.Tree.{below}
+use Rattle.graph.specs.Search.{nearest}
+use Rattle.graph.specs.Graph.{Graph, join-of}
+use Rattle.graph.specs.Ghost.{is-nil, under}
+use Rattle.nodes.specs.Nodes.{col, flag, row, found, listed-under}
+use Rattle.nodes.specs.Columns.{Columns, Sound}
+use Rattle.vote_search.specs.declared.Tally.{Tally}
+
+-- a node's own bits, else the joined bits of the nodes found; no block is in the graph that has no node and is on no edge.
+-- `tallied-is` says that the bits are `tally`.
+unfoldable pub tallied : List ℕ → List Bool → List ℕ → List (List ℕ) → List ℕ → ℕ → ℕ → Tally
+tallied parents used above rows heads tips b =
+    let ns = found (col parents) (col above) (front tips heads) b in
+    cond (flag used b) (record { inside = true; bits = row rows b })
+    (record { inside = not (is-nil ns); bits = join-of (row rows) ns })
+
+-- the nodes that follow a block, by the nodes above. `followed-is` says that they are `following`.
+unfoldable pub followed : List ℕ → List Bool → List ℕ → List ℕ → ℕ → ℕ → List ℕ
+followed parents used above order listed b =
+    keep (under (col parents) b) (listed-under (col above) (front listed order) (nearest (col parents) (flag used) b))
+
+-- a block of the table at or below the base, and columns that keep the shape rules
+pub record Stands (parents : List ℕ) (base : ℕ) (g : Columns) (block : ℕ) : Type 0 where
+  pub ids : List ℕ
+  pub count : ℕ
+  pub sound : Sound parents ids base count g
+  pub in-base : T (below (col parents) base block)
+  pub in-table : block < count
+
+-- the graph that a search sees to which the listing is not lent
+abbrev pub unlisted : List Bool → List (List ℕ) → List ℕ → ℕ → Graph
+unlisted used rows heads tips = record { used = flag used; bits = row rows; order = []; heads = front tips heads }
+
+-- places that all lie strictly below a block
+abbrev pub Lower : List ℕ → ℕ → List ℕ → Type 0
+Lower parents b ns = (n : ℕ) → 0 < times n ns → T (under (col parents) b n)
