@@ -14,8 +14,8 @@ use Rattle.graph.specs.Graph.{join-of, enter, relist, rehead}
 use Rattle.nodes.specs.declared.Places.{Places}
 use Rattle.nodes.specs.Nodes.{col, flag, row, placed, found}
 use Rattle.nodes.specs.Columns.{Columns}
-use Rattle.vote_insert.specs.Insert.{set-all, listing, Packed, without, added, marked, with-rows, inserted, Addable, Insertable}
-use Rattle.vote_insert.proofs.Lists.{count-is, listing-is, packed, length-enter}
+use Rattle.vote_insert.specs.Insert.{set-all, listing, Packed, shifted, without, added, marked, with-rows, inserted, Addable, Insertable}
+use Rattle.vote_insert.proofs.Lists.{count-is, listing-is, packed, shifted-end, length-enter}
 
 -- the new listing
 module _ (order ms : List ℕ) (t : ℕ) where
@@ -37,10 +37,11 @@ module _ (order ms : List ℕ) (t : ℕ) where
         omega (arith, count-is q (listing p ++ ms) eq, length-append (listing p) ms, ap length (listing-is p stays ep), length-relist),
       )
 
-      pub relisted : (r : Places) → r ≡ placed (listing q ++ (t ∷ [])) → r ≡ placed (relist t ms order)
+      pub relisted : (r : Places) → r ≡ shifted q (q .count) t → r ≡ placed (relist t ms order)
       unfolding relist
       relisted r e =
-          e ∙ ap (λ (l : List ℕ). placed (l ++ (t ∷ []))) (listing-is q (listing p ++ ms) eq ∙ ap (λ (l : List ℕ). l ++ ms) (listing-is p stays ep))
+          e ∙ shifted-end q t (members-room .0) (members-room .1)
+          ∙ ap (λ (l : List ℕ). placed (l ++ (t ∷ []))) (listing-is q (listing p ++ ms) eq ∙ ap (λ (l : List ℕ). l ++ ms) (listing-is p stays ep))
           ∙ ap placed (append-assoc stays ms (t ∷ []))
 
 -- the new heads

@@ -16,7 +16,7 @@ use Rattle.nodes.specs.declared.Places.{Places}
 use Rattle.nodes.specs.Nodes.{col, flag, row, Falls, placed, found}
 use Rattle.nodes.specs.Columns.{Columns}
 
--- marks at some places
+-- marks at some places: whether `introduce_branch` moves a node is then one look
 unfoldable pub flags : List ℕ → List Bool
 flags places = fold (λ p v. set v p true) places (replicate 256 false)
 
@@ -31,11 +31,11 @@ listing p = front (p .count) (p .places)
 abbrev pub Packed : Places → Type 0
 Packed p = p ≡ placed (listing p)
 
--- the places but one
+-- the places but one, as `heads.remove`
 abbrev pub without : ℕ → List ℕ → List ℕ
 without x l = keep (λ y. not (eqb y x)) l
 
--- where t belongs among places by rising id: before the first of a higher id
+-- where `heads.insert` puts t among places by rising id: before the first of a higher id
 unfoldable pub slot : (ℕ → ℕ) → ℕ → List ℕ → ℕ → ℕ
 slot ids t places count = first (λ k. ltb (ids t) (ids (col places k))) (λ k. k) count count 0
 
@@ -60,7 +60,7 @@ added parents ids t g =
       tips = length heads;
     }
 
--- bit j in the node at `at` and in those above it. The climb ends at the first place that is not past the base.
+-- the loop of `insert`: bit j in the node at `at` and in those above it. The climb ends at the first place that is not past the base.
 unfoldable pub marked-from : List ℕ → ℕ → ℕ → ℕ → ℕ → List (List ℕ) → List (List ℕ)
 marked-from above base j zero at rows = rows
 marked-from above base j (suc f) at rows =

@@ -33,7 +33,7 @@ nearest-requires c κs = search needs
 
 -- src/lib.rt:204:9
 join-of-requires : tie.Need-join-of-requires
-join-of-requires c κs = few _ _ _ _ (c .before .before .before .before .before .before .before .before .before .before .pre) _ (c .before .before .before .before .before .before .find-containing-nodes .ensures)
+join-of-requires c κs = omega (arith, few _ _ _ _ (c .before .before .before .before .before .before .before .before .before .before .pre) _ (c .before .before .before .before .before .before .find-containing-nodes .ensures))
 
 -- src/lib.rt:205:9
 relist-requires : tie.Need-relist-requires
@@ -41,7 +41,7 @@ relist-requires c κs = list-room _ _ _ _ (c .before .before .before .before .be
 
 -- src/lib.rt:206:5
 set-all-requires : tie.Need-set-all-requires
-set-all-requires c κs = few _ _ _ _ (c .before .before .before .before .before .before .before .before .before .before .before .before .before .before .before .before .before .before .pre) _ (c .before .before .before .before .before .before .before .before .before .before .before .before .before .before .find-containing-nodes .ensures)
+set-all-requires c κs = omega (arith, few _ _ _ _ (c .before .before .before .before .before .before .before .before .before .before .before .before .before .before .before .before .before .before .pre) _ (c .before .before .before .before .before .before .before .before .before .before .before .before .before .before .find-containing-nodes .ensures))
 
 -- src/lib.rt:207:5
 element-write-above : tie.Need-element-write-above
