@@ -25,13 +25,12 @@ unfoldable pub followed : List ℕ → List Bool → List ℕ → List ℕ → �
 followed parents used above order listed b =
     keep (under (col parents) b) (listed-under (col above) (front listed order) (nearest (col parents) (flag used) b))
 
--- a block of the table at or below the base, and columns that keep the shape rules
+-- a block at or below the base, and columns that keep the shape rules on some table of ids
 pub record Stands (parents : List ℕ) (base : ℕ) (g : Columns) (block : ℕ) : Type 0 where
   pub ids : List ℕ
   pub count : ℕ
   pub sound : Sound parents ids base count g
   pub in-base : T (below (col parents) base block)
-  pub in-table : block < count
 
 -- the graph that a search sees to which the listing is not lent
 abbrev pub unlisted : List Bool → List (List ℕ) → List ℕ → ℕ → Graph

@@ -98,8 +98,8 @@ pub fn first_passing<'a>(
     for k in 0..count {
         let node = places[k];
         let at = wide(node);
-        let bits = rows[at];
-        if nodes::passes(weights, question, bits) {
+        let votes = rows[at];
+        if nodes::passes(weights, question, votes) {
             return node;
         }
     }
@@ -217,19 +217,19 @@ pub fn find_ghost<'a>(
         return Found::Nothing;
     }
     let follow = following(parents, used, above, order, listed, block);
-    let mut at = block;
+    let mut last = block;
     let mut places = follow.places;
     let mut count = follow.count;
     loop {
         let child = first_passing(rows, weights, question, &places, count);
         if child == 0 {
             let nodes = Places { places, count };
-            return Found::At(merge_point(parents, rows, weights, question, nodes, at));
+            return Found::At(merge_point(parents, rows, weights, question, nodes, last));
         }
         let next = nodes::children(above, order, listed, child);
         let lower = next.places;
         places = lower;
         count = next.count;
-        at = child;
+        last = child;
     }
 }

@@ -24,14 +24,14 @@ use Rattle.vote_search.proofs.following.Reads as following-reads
 use Rattle.vote_search.proofs.merge_point.Reads as merge-point-reads
 
 abbrev Inv-loop : tie.InvT-loop
-Inv-loop parents used above rows order listed heads tips weights question block at₀ places₀ count₀ at places count =
-    (at < 256) × (count ≤ 256) × Lower parents at (front count places) × (f : ℕ) × (256 ≤ at + f)
+Inv-loop parents used above rows order listed heads tips weights question block last₀ places₀ count₀ last places count =
+    (last < 256) × (count ≤ 256) × Lower parents last (front count places) × (f : ℕ) × (256 ≤ last + f)
     × (let g = view (record { used = used; above = above; rows = rows; order = order; listed = listed; heads = heads; tips = tips }) in
     settle (col parents) g (passes weights question) 256 block (following (col parents) g block)
-    ≡ settle (col parents) g (passes weights question) f at (front count places))
+    ≡ settle (col parents) g (passes weights question) f last (front count places))
 
 abbrev μ-loop : tie.MeasureT-loop
-μ-loop parents used above rows order listed heads tips weights question block at₀ places₀ count₀ at places count = 256 - at
+μ-loop parents used above rows order listed heads tips weights question block last₀ places₀ count₀ last places count = 256 - last
 
 -- src/lib.rt:214:9
 cumulative-vote-requires : tie.Need-cumulative-vote-requires Inv-loop μ-loop
@@ -85,7 +85,7 @@ children-requires c κs = c .before .before .before .before .before .before .bef
 -- src/lib.rt:223:5
 loop-less : tie.Need-loop-less Inv-loop μ-loop
 loop-less c =
-    let past : c .before .before .before .before .before .loop .at < c .before .before .before .first-passing .result
+    let past : c .before .before .before .before .before .loop .last < c .before .before .before .first-passing .result
     = lower-past (c .before .before .before .before .before .before .before .before .before .before .before .before .args .parents .now) (c .before .before .before .before .before .before .before .before .before .before .before .before .pre .1 .sound .parents-fall) _ _ _ (c .before .before .before .before .before .loop .inv .2)
     (first-listed _ _ _ (c .before .before .before .first-passing .ensures) (c .before .before .if2 .left)) in
     omega (arith, c .before .before .before .before .before .loop .inv .0)
@@ -95,7 +95,7 @@ loop-again : tie.Need-loop-again Inv-loop μ-loop
 loop-again c =
     let s = c .before .before .before .before .before .before .before .before .before .before .before .before .pre .1 .sound in
     let here = placed-front _ _ (c .before .children .ensures) ∙ listed-is _ _ _ _ _ s _ in
-    let past : c .before .before .before .before .before .loop .at < c .before .before .before .first-passing .result
+    let past : c .before .before .before .before .before .loop .last < c .before .before .before .first-passing .result
     = lower-past (c .before .before .before .before .before .before .before .before .before .before .before .before .args .parents .now) (s .parents-fall) _ _ _ (c .before .before .before .before .before .loop .inv .2) (first-listed _ _ _ (c .before .before .before .first-passing .ensures) (c .before .before .if2 .left)) in (
       search needs,
       omega (arith, listed-few _ _ _ _ _ (c .before .children .ensures), s .listed-fits),

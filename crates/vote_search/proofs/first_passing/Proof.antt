@@ -35,12 +35,12 @@ wide-requires : tie.Need-wide-requires Inv-loop μ-loop
 wide-requires c κs = search needs
 
 -- src/lib.rt:101:20
-mul-bits : tie.Need-mul-bits Inv-loop μ-loop
-mul-bits c = omega (arith, c .wide .ensures .1)
+mul-votes : tie.Need-mul-votes Inv-loop μ-loop
+mul-votes c = omega (arith, c .wide .ensures .1)
 
 -- src/lib.rt:101:20
-element-copy-out-bits : tie.Need-element-copy-out-bits Inv-loop μ-loop
-element-copy-out-bits c = c .wide .ensures .1
+element-copy-out-votes : tie.Need-element-copy-out-votes Inv-loop μ-loop
+element-copy-out-votes c = c .wide .ensures .1
 
 -- src/lib.rt:102:12
 passes-requires : tie.Need-passes-requires Inv-loop μ-loop
@@ -81,8 +81,8 @@ first-passing-spec =
     loop-holds
     element-copy-out-node
     wide-requires
-    mul-bits
-    element-copy-out-bits
+    mul-votes
+    element-copy-out-votes
     passes-requires
     returns
     add-k
