@@ -29,7 +29,7 @@ use Rattle.graph.proofs.Listed.{near-member, near-other, near-new}
 use Rattle.nodes.specs.Nodes.{col, flag, row, Falls, found}
 use Rattle.nodes.specs.Columns.{Columns, view, Sound}
 use Rattle.nodes.proofs.Tied.{found-is}
-use Rattle.vote_insert.specs.Insert.{set-all, without, added, marked, with-rows, inserted, Addable, Insertable}
+use Rattle.vote_insert.specs.Insert.{set-all, without, added, marked, with-rows, inserted, Insertable}
 use Rattle.vote_insert.proofs.Lists.{or-true, front-padded}
 use Rattle.vote_insert.proofs.Marks.{length-marked, marked-bits}
 
