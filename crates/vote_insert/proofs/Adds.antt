@@ -1,8 +1,8 @@
 -- A new node in columns, from what its parts give.
-use mathlib.Core.Bool.{Bool, true, false, cond, not}
+use mathlib.Core.Bool.{true, false}
 use mathlib.Core.List.{List, [], _∷_, _++_, append-assoc}
-use mathlib.Core.Path.{_≡_, refl, sym, ap, subst, _∙_}
-use Prim.Native.Nat.{ℕ, zero, suc, _+_, _≤_, _<_}
+use mathlib.Core.Path.{_≡_, refl, sym, ap, _∙_}
+use Prim.Native.Nat.{ℕ, _+_, _≤_, _<_}
 use native.Mathlib.Omega.{arith}
 use lib.Dec.{eqb}
 use lib.ListN.{set, length, length-append}
@@ -14,7 +14,7 @@ use Rattle.graph.specs.Graph.{join-of, enter, relist, rehead}
 use Rattle.nodes.specs.declared.Places.{Places}
 use Rattle.nodes.specs.Nodes.{col, flag, row, placed, found}
 use Rattle.nodes.specs.Columns.{Columns}
-use Rattle.vote_insert.specs.Insert.{set-all, listing, Packed, shifted, without, added, marked, with-rows, inserted, Addable, Insertable}
+use Rattle.vote_insert.specs.Insert.{set-all, listing, Packed, shifted, without, added, marked, with-rows, inserted, Addable}
 use Rattle.vote_insert.proofs.Lists.{count-is, listing-is, packed, shifted-end, length-enter}
 
 -- the new listing

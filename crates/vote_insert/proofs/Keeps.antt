@@ -1,17 +1,17 @@
 -- `insert` on sound columns is `insert` of the graph that they hold, keeps them sound, and finds room.
 use mathlib.Core.Bool.{Bool, true, false, cond, not, _&&_, _||_}
-use mathlib.Core.List.{List, [], _∷_, _++_}
+use mathlib.Core.List.{List, [], _∷_}
 use mathlib.Core.Path.{_≡_, refl, sym, ap, subst, fun-ext, _∙_}
-use mathlib.Core.Logic.{_≢_, _⊎_, inl, inr, ⊎-elim}
+use mathlib.Core.Logic.{_≢_, ⊎-elim}
 use Prim.Native.Nat.{ℕ, zero, suc, pred, _+_, _≤_, _<_}
 use native.Mathlib.Decide.{ℕ-discrete}
 use native.Mathlib.Omega.{arith}
 use lib.Dec.{T, eqb, eqb→eq, T-not}
-use lib.ListN.{getD, set, length, length-set}
+use lib.ListN.{set, length, length-set}
 use lib.Seq.{getD-set-same, getD-set-other}
 use borrow.Author.Tests.{eq-eqb, ne-eqb}
 use Rattle.loops.specs.Listing.{times, keep, fold, front}
-use Rattle.loops.proofs.Tests.{T-true, true-T, T-false, false-T, or-false, by-test, either, in-left, in-right}
+use Rattle.loops.proofs.Tests.{T-true, T-false, or-false, by-test, either}
 use Rattle.loops.proofs.Listings.{times-here, times-past, times-none, times-keep, kept-in, length-front}
 use Rattle.columns.specs.Lists.{padded}
 use Rattle.grandpa.specs.Tree.{below}
@@ -29,8 +29,8 @@ use Rattle.graph.proofs.Listed.{near-member, near-other, near-new}
 use Rattle.nodes.specs.Nodes.{col, flag, row, Falls, found}
 use Rattle.nodes.specs.Columns.{Columns, view, Sound}
 use Rattle.nodes.proofs.Tied.{found-is}
-use Rattle.vote_insert.specs.Insert.{set-all, without, added, marked, with-rows, inserted, Addable, Insertable}
-use Rattle.vote_insert.proofs.Lists.{front-padded}
+use Rattle.vote_insert.specs.Insert.{set-all, without, added, marked, with-rows, inserted, Insertable}
+use Rattle.vote_insert.proofs.Lists.{or-true, front-padded}
 use Rattle.vote_insert.proofs.Marks.{length-marked, marked-bits}
 
 -- different places below n are at most n
@@ -44,21 +44,26 @@ length-without n (x ∷ l) = go (ℕ-discrete x n) (length-without n l)
     go (yes e) r = rw (eq-eqb x n e, e, times-here n l) (omega arith)
     go (no d) r = rw (ne-eqb x n d, times-past n x l d) (omega arith)
 
-pigeon : (n : ℕ) (l : List ℕ) → ((x : ℕ) → times x l ≤ 1) → ((x : ℕ) → 0 < times x l → x < n) → length l ≤ n
-pigeon zero [] one less = omega arith
-pigeon zero (x ∷ l) one less = absurd (omega (arith, less x (omega (arith, times-here x l))))
-pigeon (suc n) l one less =
-    omega (arith, length-without n l, one n, pigeon n (without n l) (λ x. omega (arith, fewer x, one x)) inside)
+pigeon : (n : ℕ) (l : List ℕ) → ((x : ℕ) → 0 < times x l → (x < n) × (times x l ≤ 1)) → length l ≤ n
+pigeon zero [] each = omega arith
+pigeon zero (x ∷ l) each = absurd (omega (arith, each x (omega (arith, times-here x l)) .0))
+pigeon (suc n) l each =
+    omega (arith, length-without n l, once (ℕ-discrete (times n l) 0), pigeon n (without n l) rest)
   where
+    once : Dec (times n l ≡ 0) → times n l ≤ 1
+    once (yes e) = omega arith
+    once (no d) = each n (omega arith) .1
+
     fewer : (x : ℕ) → times x (without n l) ≤ times x l
     fewer x =
         subst (λ (m : ℕ). m ≤ times x l) (sym (times-keep (λ y. not (eqb y n)) x l))
         (by-test (λ (m : ℕ). m ≤ times x l) (not (eqb x n)) (times x l) 0 (λ t. omega arith) (λ t. omega arith))
 
-    inside : (x : ℕ) → 0 < times x (without n l) → x < n
-    inside x h =
+    rest : (x : ℕ) → 0 < times x (without n l) → (x < n) × (times x (without n l) ≤ 1)
+    rest x h =
         let r = kept-in (λ y. not (eqb y n)) x l h in
-        omega (arith, less x (r .0), apart (r .1))
+        let e = each x (r .0) in
+        (omega (arith, e .0, apart (r .1)), omega (arith, e .1, fewer x))
       where
         apart : T (not (eqb x n)) → x ≢ n
         apart t e = T-not (eqb x n) t (T-true (eq-eqb x n e))
@@ -97,24 +102,10 @@ clear l = ap (padded 256) (sym (front-padded l))
 -- nodes are as few as the places
 module _ (up ids : ℕ → ℕ) (base count : ℕ) (used : ℕ → Bool) (order heads : List ℕ) (nodes : Nodes up ids base count used order heads) (small : count ≤ 256) where
   few-listed : length order ≤ 256
-  few-listed = pigeon 256 order one (λ x h. omega (arith, nodes .tabled x (nodes .list-only x h .0)))
-    where
-      one : (x : ℕ) → times x order ≤ 1
-      one x = go (ℕ-discrete (times x order) 0)
-        where
-          go : Dec (times x order ≡ 0) → times x order ≤ 1
-          go (yes e) = omega arith
-          go (no n) = let r = nodes .list-only x (omega arith) in omega (arith, nodes .listed x (r .0) (r .1))
+  few-listed = pigeon 256 order (λ x h. let r = nodes .list-only x h in (omega (arith, nodes .tabled x (r .0)), omega (arith, nodes .listed x (r .0) (r .1))))
 
   few-heads : length heads ≤ 256
-  few-heads = pigeon 256 heads one (λ x h. omega (arith, nodes .tabled x (nodes .head-only x h .0)))
-    where
-      one : (x : ℕ) → times x heads ≤ 1
-      one x = go (ℕ-discrete (times x heads) 0)
-        where
-          go : Dec (times x heads ≡ 0) → times x heads ≤ 1
-          go (yes e) = omega arith
-          go (no n) = let r = nodes .head-only x (omega arith) in omega (arith, nodes .headed x (r .0) (r .1))
+  few-heads = pigeon 256 heads (λ x h. let r = nodes .head-only x h in (omega (arith, nodes .tabled x (r .0)), omega (arith, nodes .headed x (r .0) (r .1))))
 
 module _ (parents ids : List ℕ) (base count t : ℕ) (in-base : T (below (col parents) base t)) (in-table : t < count) where
   abbrev up : ℕ → ℕ
@@ -149,10 +140,6 @@ module _ (parents ids : List ℕ) (base count t : ℕ) (in-base : T (below (col 
     used-is : (x : ℕ) → flag (set (g .used) t true) x ≡ (used x || eqb x t)
     used-is x = go (ℕ-discrete x t)
       where
-        or-true : (b : Bool) → (b || true) ≡ true
-        or-true true = refl
-        or-true false = refl
-
         go : Dec (x ≡ t) → flag (set (g .used) t true) x ≡ (used x || eqb x t)
         go (yes e) =
             rw e (getD-set-same (g .used) t true false (omega (arith, place, sound .used-size)) ∙ sym (ap (λ (b : Bool). used t || b) (eq-eqb t t refl) ∙ or-true (used t)))

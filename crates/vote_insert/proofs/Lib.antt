@@ -2,3 +2,4 @@ pub mod Lists
 pub mod Marks
 pub mod Adds
 pub mod Keeps
+pub mod Opens

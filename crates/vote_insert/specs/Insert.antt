@@ -16,6 +16,19 @@ use Rattle.nodes.specs.declared.Places.{Places}
 use Rattle.nodes.specs.Nodes.{col, flag, row, Falls, placed, found}
 use Rattle.nodes.specs.Columns.{Columns}
 
+-- `VoteGraph::new`: the base alone
+unfoldable pub opened : ℕ → Columns
+opened base =
+    record {
+      used = set (replicate 256 false) base true;
+      above = replicate 256 0;
+      rows = replicate 256 (0 ∷ 0 ∷ []);
+      order = replicate 256 0;
+      listed = 0;
+      heads = padded 256 (base ∷ []);
+      tips = 1;
+    }
+
 -- marks at some places: whether `introduce_branch` moves a node is then one look
 unfoldable pub flags : List ℕ → List Bool
 flags places = fold (λ p v. set v p true) places (replicate 256 false)
