@@ -292,25 +292,26 @@ module _ (up ids : ℕ → ℕ) (falls : (k : ℕ) → up k ≤ pred k) (base co
       let met : 0 < times m (m ∷ ms) = omega (arith, times-here m ms) in
       nodes-with (m ∷ ms) single only over heads (headed-some (m ∷ ms) single only over m met) (head-only-some (m ∷ ms) single only over m met) (nodes .rising)
 
+-- the node at t, where it is new
+module _ (up ids : ℕ → ℕ) (falls : (k : ℕ) → up k ≤ pred k) (base count : ℕ) (g : Graph) (nodes : Nodes up ids base count (g .used) (g .order) (g .heads))
+    (t : ℕ) (in-base : T (below up base t)) (in-table : t < count) (bare : T (not (g .used t))) where
+  above-new : Nearest up falls (g .used) (up t) (nearest up (g .used) (up t))
+  above-new =
+      nearest-says up falls (g .used) base (nodes .base-used) (up t)
+      (below-step up falls base t in-base (λ e. T-not (g .used t) bare (subst (λ (z : ℕ). T (g .used z)) e (nodes .base-used))))
+
+  pub added-nodes : ((y : ℕ) → T (g .used y) → ids y ≢ ids t)
+      → Nodes up ids base count (add-node up ids t g .used) (add-node up ids t g .order) (add-node up ids t g .heads)
+  unfolding add-node
+  added-nodes apart =
+      nodes-added up ids falls base count (g .used) (g .order) (g .heads) nodes t bare in-base in-table apart
+      (nearest up (g .used) (up t)) above-new (containing up (g .used) (g .heads) t)
+      (containing-once up ids falls base count (g .used) (g .order) (g .heads) nodes t bare)
+      (containing-only up ids falls base count (g .used) (g .order) (g .heads) nodes t bare)
+      (containing-over up ids falls base count (g .used) (g .order) (g .heads) nodes t bare)
+
 module _ (up ids : ℕ → ℕ) (falls : (k : ℕ) → up k ≤ pred k) (base count : ℕ) (cast : ℕ → Vote) (t : ℕ) (in-base : T (below up base t)) (in-table : t < count) where
-  -- the node at t, where it is new
-  module _ (g : Graph) (shape : Shape up ids base count cast g) (bare : T (not (g .used t))) (apart : (y : ℕ) → T (g .used y) → ids y ≢ ids t) where
-    strictly : t ≢ base
-    strictly e = T-not (g .used t) bare (subst (λ (z : ℕ). T (g .used z)) (sym e) (shape .nodes .base-used))
-
-    pub above-new : Nearest up falls (g .used) (up t) (nearest up (g .used) (up t))
-    above-new =
-        nearest-says up falls (g .used) base (shape .nodes .base-used) (up t) (below-step up falls base t in-base (λ e. strictly (sym e)))
-
-    pub added-nodes : Nodes up ids base count (add-node up ids t g .used) (add-node up ids t g .order) (add-node up ids t g .heads)
-    unfolding add-node
-    added-nodes =
-        nodes-added up ids falls base count (g .used) (g .order) (g .heads) (shape .nodes) t bare in-base in-table apart
-        (nearest up (g .used) (up t)) above-new (containing up (g .used) (g .heads) t)
-        (containing-once up ids falls base count (g .used) (g .order) (g .heads) (shape .nodes) t bare)
-        (containing-only up ids falls base count (g .used) (g .order) (g .heads) (shape .nodes) t bare)
-        (containing-over up ids falls base count (g .used) (g .order) (g .heads) (shape .nodes) t bare)
-
+  module _ (g : Graph) (shape : Shape up ids base count cast g) (bare : T (not (g .used t))) where
     pub added-rows : Bits up cast (add-node up ids t g .used) (add-node up ids t g .bits)
     unfolding add-node
     added-rows =
@@ -426,10 +427,10 @@ module _ (up ids : ℕ → ℕ) (falls : (k : ℕ) → up k ≤ pred k) (base co
         g′ = add-node up ids t g
 
         added : Nodes up ids base count (add-node up ids t g .used) (add-node up ids t g .order) (add-node up ids t g .heads)
-        added = added-nodes g shape u apart
+        added = added-nodes up ids falls base count g (shape .nodes) t in-base in-table u apart
 
         rows : Bits up cast (add-node up ids t g .used) (add-node up ids t g .bits)
-        rows = added-rows g shape u apart
+        rows = added-rows g shape u
 
         here : T (add-node up ids t g .used t)
         here = unfold add-node in in-right (g .used t) (eqb t t) (eqb-refl t)

@@ -13,22 +13,20 @@ use Rattle.loops.specs.Listing.{times, keep}
 use Rattle.loops.proofs.Tests.{either, in-left, in-right}
 use Rattle.loops.proofs.Listings.{times-here, times-past, times-none, keep-append, keep-cong, keep-none, keep-every, keep-swap, kept-in}
 use Rattle.grandpa.specs.Tree.{below}
-use Rattle.grandpa.specs.Vote.{Vote}
 use Rattle.grandpa.proofs.Trees.{below-refl, below-up, below-trans, below-le, below-antisym, below-line, below-step}
 use Rattle.graph.specs.Search.{containing, nearest}
 use Rattle.graph.specs.Graph.{Graph, relist, add-node, children}
-use Rattle.graph.specs.Shape.{Holds, Shape}
+use Rattle.graph.specs.Shape.{Holds, Nodes}
 use Rattle.graph.proofs.Climbs.{Nearest, nearest-says, holds-past}
 use Rattle.graph.proofs.Found.{containing-only, containing-has}
-use Rattle.graph.proofs.Inserts.{above-new}
 
 pub nearest-unique : (up : ℕ → ℕ) (falls : (k : ℕ) → up k ≤ pred k) (used : ℕ → Bool) (at x y : ℕ)
     → Nearest up falls used at x → Nearest up falls used at y → x ≡ y
 nearest-unique up falls used at x y p q =
     below-antisym up falls x y (q .first x (p .is-node) (p .above)) (p .first y (q .is-node) (q .above))
 
-module _ (up ids : ℕ → ℕ) (falls : (k : ℕ) → up k ≤ pred k) (base count : ℕ) (cast : ℕ → Vote) (g : Graph) (shape : Shape up ids base count cast g)
-    (t : ℕ) (in-base : T (below up base t)) (in-table : t < count) (bare : T (not (g .used t))) where
+module _ (up ids : ℕ → ℕ) (falls : (k : ℕ) → up k ≤ pred k) (base count : ℕ) (g : Graph)
+    (nodes : Nodes up ids base count (g .used) (g .order) (g .heads)) (t : ℕ) (in-base : T (below up base t)) (in-table : t < count) (bare : T (not (g .used t))) where
   abbrev used′ : ℕ → Bool
   used′ x = g .used x || eqb x t
 
@@ -45,11 +43,11 @@ module _ (up ids : ℕ → ℕ) (falls : (k : ℕ) → up k ≤ pred k) (base co
   by-age P y u f h = ⊎-elim f (λ e. h (eqb→eq y t e)) (either (g .used y) (eqb y t) u)
 
   base-used′ : T (used′ base)
-  base-used′ = old base (shape .nodes .base-used)
+  base-used′ = old base (nodes .base-used)
 
   -- a node other than the base has the base above its parent
   parent-inside : (n : ℕ) → T (g .used n) → n ≢ base → T (below up base (up n))
-  parent-inside n u d = below-step up falls base n (shape .nodes .inside n u) (λ e. d (sym e))
+  parent-inside n u d = below-step up falls base n (nodes .inside n u) (λ e. d (sym e))
 
   -- the nearest node above: of a member it is t, of every other node what it was
   pub near-member : (m : ℕ) → Holds up (g .used) t m → nearest up used′ (up m) ≡ t
@@ -85,7 +83,7 @@ module _ (up ids : ℕ → ℕ) (falls : (k : ℕ) → up k ≤ pred k) (base co
       })
     where
       near : Nearest up falls (g .used) (up n) (nearest up (g .used) (up n))
-      near = nearest-says up falls (g .used) base (shape .nodes .base-used) (up n) (parent-inside n u d)
+      near = nearest-says up falls (g .used) base (nodes .base-used) (up n) (parent-inside n u d)
 
       new : (y : ℕ) → y ≡ t → T (below up y (up n)) → T (below up y (nearest up (g .used) (up n)))
       new y e l = go (below-line up falls y (nearest up (g .used) (up n)) (up n) l (near .above))
@@ -107,7 +105,7 @@ module _ (up ids : ℕ → ℕ) (falls : (k : ℕ) → up k ≤ pred k) (base co
                   absurd (not-new z v (sym r))
 
   strictly : t ≢ base
-  strictly e = not-new base (shape .nodes .base-used) (sym e)
+  strictly e = not-new base (nodes .base-used) (sym e)
 
   pub near-new : nearest up used′ (up t) ≡ nearest up (g .used) (up t)
   near-new =
@@ -123,19 +121,19 @@ module _ (up ids : ℕ → ℕ) (falls : (k : ℕ) → up k ≤ pred k) (base co
       inside = below-step up falls base t in-base (λ e. strictly (sym e))
 
       near : Nearest up falls (g .used) (up t) (nearest up (g .used) (up t))
-      near = nearest-says up falls (g .used) base (shape .nodes .base-used) (up t) (below-step up falls base t in-base (λ e. strictly (sym e)))
+      near = nearest-says up falls (g .used) base (nodes .base-used) (up t) (below-step up falls base t in-base (λ e. strictly (sym e)))
 
   -- who is a member
   member : (n : ℕ) → 0 < times n ms → Holds up (g .used) t n
-  member = containing-only up ids falls base count (g .used) (g .order) (g .heads) (shape .nodes) t bare
+  member = containing-only up ids falls base count (g .used) (g .order) (g .heads) nodes t bare
 
   no-member : (n : ℕ) → times n ms ≡ 0 → Holds up (g .used) t n → ⊥
-  no-member n e p = omega (arith, containing-has up ids falls base count (g .used) (g .order) (g .heads) (shape .nodes) t bare n p)
+  no-member n e p = omega (arith, containing-has up ids falls base count (g .used) (g .order) (g .heads) nodes t bare n p)
 
   stays : (n : ℕ) → 0 < times n (keep (λ x. eqb (times x ms) 0) (g .order)) → nearest up used′ (up n) ≡ nearest up (g .used) (up n)
   stays n h =
       let k = kept-in (λ x. eqb (times x ms) 0) n (g .order) h in
-      let r = shape .nodes .list-only n (k .0) in
+      let r = nodes .list-only n (k .0) in
       near-other n (r .0) (r .1) (no-member n (eqb→eq (times n ms) 0 (k .1)))
 
   pub children-new : children up (add-node up ids t g) t ≡ ms
@@ -155,15 +153,15 @@ module _ (up ids : ℕ → ℕ) (falls : (k : ℕ) → up k ≤ pred k) (base co
 
       old-above : (n : ℕ) → 0 < times n (keep (λ x. eqb (times x ms) 0) (g .order)) → nearest up (g .used) (up n) ≢ t
       old-above n h =
-          let r = shape .nodes .list-only n (kept-in (λ x. eqb (times x ms) 0) n (g .order) h .0) in
-          not-new _ (nearest-says up falls (g .used) base (shape .nodes .base-used) (up n) (parent-inside n (r .0) (r .1)) .is-node)
+          let r = nodes .list-only n (kept-in (λ x. eqb (times x ms) 0) n (g .order) h .0) in
+          not-new _ (nearest-says up falls (g .used) base (nodes .base-used) (up n) (parent-inside n (r .0) (r .1)) .is-node)
 
       new-above : (n : ℕ) → 0 < times n (t ∷ []) → nearest up used′ (up n) ≡ t → ⊥
       new-above n h e = go (ℕ-discrete t n)
         where
           go : Dec (t ≡ n) → ⊥
           go (yes q) =
-              not-new _ (nearest-says up falls (g .used) base (shape .nodes .base-used) (up t) (below-step up falls base t in-base (λ z. strictly (sym z))) .is-node)
+              not-new _ (nearest-says up falls (g .used) base (nodes .base-used) (up t) (below-step up falls base t in-base (λ z. strictly (sym z))) .is-node)
               (sym near-new ∙ ap (λ (z : ℕ). nearest up used′ (up z)) q ∙ e)
           go (no q) = omega (arith, times-past n t [] q, times-none n)
 

@@ -1,3 +1,4 @@
 pub mod Climbs
 pub mod Lists
 pub mod Search
+pub mod Tied

@@ -1,33 +1,55 @@
--- `insert` on columns. proofs/ says that it is `insert` of the graph that they hold, and that it keeps the columns sound.
-use mathlib.Core.Bool.{Bool, true, cond, not}
+-- `insert` of vote_graph.rs on columns. proofs/ says that it is `insert` of the graph that they hold, and that it keeps the
+-- columns sound.
+use mathlib.Core.Bool.{Bool, true, false, cond, not}
 use mathlib.Core.List.{List, [], _∷_}
-use Prim.Native.Nat.{ℕ, zero, suc}
-use lib.Dec.{eqb}
-use lib.ListN.{getD, set, length}
+use mathlib.Core.Path.{_≡_}
+use Prim.Native.Nat.{ℕ, zero, suc, _+_, _-_, _≤_}
+use lib.Dec.{leb, ltb, eqb}
+use lib.ListN.{set, length, replicate}
+use Rattle.loops.specs.Loop.{first}
 use Rattle.loops.specs.Listing.{front, keep, fold}
-use Rattle.columns.specs.Lists.{padded}
+use Rattle.columns.specs.Lists.{padded, shift}
 use Rattle.bitfield.specs.Bits.{put}
 use Rattle.graph.specs.Search.{nearest}
-use Rattle.graph.specs.Graph.{join-of, enter, relist}
-use Rattle.nodes.specs.Nodes.{col, flag, row, found}
+use Rattle.graph.specs.Graph.{join-of, relist, rehead}
+use Rattle.nodes.specs.declared.Places.{Places}
+use Rattle.nodes.specs.Nodes.{col, flag, row, Falls, placed, found}
 use Rattle.nodes.specs.Columns.{Columns}
+
+-- marks at some places
+unfoldable pub flags : List ℕ → List Bool
+flags places = fold (λ p v. set v p true) places (replicate 256 false)
 
 -- x at each of some places
 unfoldable pub set-all : List ℕ → List ℕ → ℕ → List ℕ
 set-all xs places x = fold (λ p v. set v p x) places xs
 
--- the heads after a node: where the search met members they stay
-abbrev pub heads-after : List ℕ → (ℕ → ℕ) → ℕ → ℕ → List ℕ → List ℕ
-heads-after [] ids t above heads = enter ids t (keep (λ x. not (eqb x above)) heads)
-heads-after (m ∷ ms) ids t above heads = heads
+-- the list in places with a count, and that nothing else is there
+abbrev pub listing : Places → List ℕ
+listing p = front (p .count) (p .places)
 
--- a node at t, which has none
+abbrev pub Packed : Places → Type 0
+Packed p = p ≡ placed (listing p)
+
+-- the places but one
+abbrev pub without : ℕ → List ℕ → List ℕ
+without x l = keep (λ y. not (eqb y x)) l
+
+-- where t belongs among places by rising id: before the first of a higher id
+unfoldable pub slot : (ℕ → ℕ) → ℕ → List ℕ → ℕ → ℕ
+slot ids t places count = first (λ k. ltb (ids t) (ids (col places k))) (λ k. k) count count 0
+
+-- x at a place, what stands there and after it one place further
+abbrev pub shifted : Places → ℕ → ℕ → Places
+shifted p k x = record { places = shift (p .count + 1 - k) k x (p .places); count = p .count + 1 }
+
+-- a node at t, which has none: `append` where the search met no members, else `introduce_branch`
 unfoldable pub added : List ℕ → List ℕ → ℕ → Columns → Columns
 added parents ids t g =
     let ms = found (col parents) (col (g .above)) (front (g .tips) (g .heads)) t in
     let over = nearest (col parents) (flag (g .used)) (col parents t) in
     let order = relist t ms (front (g .listed) (g .order)) in
-    let heads = heads-after ms (col ids) t over (front (g .tips) (g .heads)) in
+    let heads = rehead (col ids) t ms over (front (g .tips) (g .heads)) in
     record {
       used = set (g .used) t true;
       above = set (set-all (g .above) ms t) t over;
@@ -38,20 +60,38 @@ added parents ids t g =
       tips = length heads;
     }
 
--- bit j in the node at `at` and in those above it, up to the base
+-- bit j in the node at `at` and in those above it. The climb ends at the first place that is not past the base.
 unfoldable pub marked-from : List ℕ → ℕ → ℕ → ℕ → ℕ → List (List ℕ) → List (List ℕ)
 marked-from above base j zero at rows = rows
 marked-from above base j (suc f) at rows =
     let next = set rows at (put (row rows at) j) in
-    cond (eqb at base) next (marked-from above base j f (col above at) next)
+    cond (leb at base) next (marked-from above base j f (col above at) next)
+
+unfoldable pub marked : List ℕ → ℕ → ℕ → ℕ → List (List ℕ) → List (List ℕ)
+marked above base j at rows = marked-from above base j (suc at) at rows
 
 abbrev pub with-rows : Columns → List (List ℕ) → Columns
 with-rows g rows =
     record { used = g .used; above = g .above; rows = rows; order = g .order; listed = g .listed; heads = g .heads; tips = g .tips }
 
-unfoldable pub marked : ℕ → ℕ → ℕ → Columns → Columns
-marked base t j g = with-rows g (marked-from (g .above) base j (suc t) t (g .rows))
-
 -- a vote, as bit j, for block t
 unfoldable pub inserted : List ℕ → List ℕ → ℕ → ℕ → ℕ → Columns → Columns
-inserted parents ids base t j g = marked base t j (cond (flag (g .used) t) g (added parents ids t g))
+inserted parents ids base t j g =
+    let next = cond (flag (g .used) t) g (added parents ids t g) in
+    with-rows next (marked (next .above) base j t (next .rows))
+
+-- columns that have room for a node at t
+pub record Addable (parents ids : List ℕ) (t : ℕ) (g : Columns) : Type 0 where
+  pub parents-fall : Falls parents
+  pub above-falls : Falls (g .above)
+  pub listed-fits : g .listed ≤ 256
+  pub tips-fit : g .tips ≤ 256
+  pub list-fits : added parents ids t g .listed ≤ 256
+  pub heads-fit : added parents ids t g .tips ≤ 256
+  pub heads-clear : g .heads ≡ padded 256 (front (g .tips) (g .heads))
+
+-- columns into which a vote for t can be put
+pub record Insertable (parents ids : List ℕ) (t : ℕ) (g : Columns) : Type 0 where
+  pub above-falls : Falls (g .above)
+  pub addable : flag (g .used) t ≡ false → Addable parents ids t g
+  pub added-falls : flag (g .used) t ≡ false → Falls (added parents ids t g .above)
