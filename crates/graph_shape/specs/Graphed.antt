@@ -6,7 +6,7 @@ use mathlib.Core.List.{List}
 use mathlib.Core.Path.{_≡_}
 use Prim.Native.Nat.{ℕ, _-_, _<_}
 use lib.Dec.{T, eqb, leb, ltb}
-use lib.ListN.{getD, set}
+use lib.ListN.{getD, set, length}
 use Rattle.loops.specs.All.{all}
 use Rattle.loops.specs.Listing.{fold, front}
 use Rattle.voter_set.specs.Good.{blank}
@@ -79,6 +79,15 @@ graphed parents ids base count g =
     && (laid (g .order) (g .listed) (others (g .used) base)
     && (laid (g .heads) (g .tips) (childless (g .used) (g .above) (front (g .listed) (g .order)))
     && (rising ids (g .heads) (g .tips) && bare (g .used) (g .rows))))))
+
+-- what the arrays are by their types
+pub record Sized (g : Columns) : Type 0 where
+  pub used-size : length (g .used) ≡ 256
+  pub above-size : length (g .above) ≡ 256
+  pub rows-size : length (g .rows) ≡ 256
+  pub row-size : (x : ℕ) → x < 256 → length (row (g .rows) x) ≡ 2
+  pub order-size : length (g .order) ≡ 256
+  pub heads-size : length (g .heads) ≡ 256
 
 -- what `Sound` leaves open: unused places 0
 pub record Clear (base : ℕ) (g : Columns) : Type 0 where
