@@ -1,0 +1,5 @@
+pub mod Sweeps
+pub mod Marks
+pub mod Heads
+pub mod Tips
+pub mod Graphs
