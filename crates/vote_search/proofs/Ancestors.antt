@@ -7,26 +7,25 @@ use mathlib.Core.Logic.{_≢_}
 use Prim.Native.Nat.{ℕ, zero, suc, pred, _≤_, _<_}
 use native.Mathlib.Decide.{ℕ-discrete}
 use native.Mathlib.Omega.{arith}
-use lib.Dec.{T, eqb, ltb, T-not, not-T}
+use lib.Dec.{T, eqb, ltb}
 use lib.ListN.{length}
 use borrow.Author.Tests.{eq-eqb, ne-eqb, lt-ltb, le-ltb}
 use Rattle.loops.specs.Listing.{times, front}
-use Rattle.loops.proofs.Tests.{decT, true-T, false-T, T-true, T-false}
+use Rattle.loops.proofs.Tests.{T-true, T-false}
 use Rattle.loops.proofs.Listings.{times-here, times-none}
 use Rattle.grandpa.specs.Tree.{below}
 use Rattle.grandpa.specs.Answers.{search-up, first-of}
 use Rattle.grandpa.proofs.Trees.{below-refl, below-up, below-trans, below-le, below-step}
 use Rattle.graph.specs.Search.{containing}
 use Rattle.graph.specs.Graph.{join-of, tally}
-use Rattle.graph.specs.Ghost.{is-nil, find-ancestor, find-ghost}
-use Rattle.graph.specs.Shape.{Holds}
+use Rattle.graph.specs.Ghost.{is-nil, find-ancestor}
 use Rattle.graph.proofs.Found.{containing-only, containing-over}
 use Rattle.nodes.specs.declared.Places.{Places}
 use Rattle.nodes.specs.Nodes.{col, flag, row, placed, found}
 use Rattle.nodes.specs.Columns.{Columns, Sound, view}
 use Rattle.vote_search.specs.declared.Tally.{Tally}
 use Rattle.vote_search.specs.Searches.{tallied, unlisted}
-use Rattle.vote_search.proofs.Turns.{placed-front, placed-count}
+use Rattle.vote_search.proofs.Turns.{not-swap, placed-front, placed-count}
 use Rattle.nodes.proofs.Tied.{found-is}
 
 some-left : (l : List ℕ) → ltb 0 (length l) ≡ not (is-nil l)
@@ -101,7 +100,7 @@ module _ (parents ids : List ℕ) (base count : ℕ) (g : Columns) (sound : Soun
       go true e = rw e
       go false e = rw (e, found-is parents ids base count g sound b l (T-false e))
 
-  tallied-inside : (b : ℕ) → T (below up base b) → at b .inside ≡ not (outside b)
+  pub tallied-inside : (b : ℕ) → T (below up base b) → at b .inside ≡ not (outside b)
   unfolding tallied
   tallied-inside b l = go (used b) refl
     where
@@ -159,11 +158,7 @@ module _ (parents ids : List ℕ) (base count : ℕ) (g : Columns) (sound : Soun
 
     module _ (b : ℕ) (l : T (below up base b)) (v : Tally) (told : v ≡ at b) where
       outside-is : (z : Bool) → v .inside ≡ z → outside b ≡ not z
-      outside-is z e = flip (outside b) z (sym e ∙ ap (λ (t : Tally). t .inside) told ∙ tallied-inside b l)
-        where
-          flip : (a z : Bool) → z ≡ not a → a ≡ not z
-          flip true z r = ap not (sym r)
-          flip false z r = ap not (sym r)
+      outside-is z e = not-swap (outside b) z (sym e ∙ ap (λ (t : Tally). t .inside) told ∙ tallied-inside b l)
 
       bits-are : (z : Bool) → ok (v .bits) ≡ z → ok (tally up (unlisted (g .used) (g .rows) (g .heads) (g .tips)) b) ≡ z
       bits-are z e = ap ok (tally-unlisted b ∙ sym (tallied-is b l) ∙ sym (ap (λ (t : Tally). t .bits) told)) ∙ e

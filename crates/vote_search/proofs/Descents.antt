@@ -1,8 +1,8 @@
 -- The nodes that follow a block by the columns, and the turns of the search down.
-use mathlib.Core.Bool.{Bool, true, false, cond, not}
-use mathlib.Core.List.{List, [], _∷_}
-use mathlib.Core.Option.{Option, none, some}
-use mathlib.Core.Path.{_≡_, refl, sym, ap, subst, _∙_}
+use mathlib.Core.Bool.{Bool, true, false}
+use mathlib.Core.List.{List, []}
+use mathlib.Core.Option.{none, some}
+use mathlib.Core.Path.{_≡_, sym, ap, subst, _∙_}
 use mathlib.Core.Logic.{_≢_}
 use Prim.Native.Nat.{ℕ, zero, suc, pred, _≤_, _<_}
 use native.Mathlib.Omega.{arith}
@@ -19,7 +19,7 @@ use Rattle.graph.specs.Ghost.{under, towards, first-in, meets, merge, settle, f
 use Rattle.graph.proofs.Climbs.{nearest-says}
 use Rattle.graph.proofs.Followed.{under-is, is-under, towards-says}
 use Rattle.nodes.specs.declared.Places.{Places}
-use Rattle.nodes.specs.Nodes.{col, flag, row, Falls, placed, listed-under}
+use Rattle.nodes.specs.Nodes.{col, flag, Falls, placed, listed-under}
 use Rattle.nodes.specs.Columns.{Columns, Sound, view}
 use Rattle.nodes.proofs.Lists.{length-kept, length-keep}
 use Rattle.vote_search.specs.declared.Tally.{Tally}
@@ -76,20 +76,17 @@ meets-past parents falls bits ok b ns lower c e d =
     omega (arith, below-le (col parents) falls b _ (s .0), s .1, r .2, e)
 
 -- the turns of the search down
-module _ (up : ℕ → ℕ) (g : Graph) (ok : List ℕ → Bool) (f b : ℕ) (ns : List ℕ) (left : 0 < f) (c : ℕ) (told : c ≡ first-in (λ n. ok (g .bits n)) ns) where
-  pub settle-ends : c ≡ 0 → settle up g ok f b ns ≡ merge up (g .bits) ok 256 b ns
-  settle-ends e = go f left
-    where
-      go : (f : ℕ) → 0 < f → settle up g ok f b ns ≡ merge up (g .bits) ok 256 b ns
-      go zero h = absurd (omega arith)
-      go (suc f) h = unfold settle in rw (← told, eq-eqb c 0 e)
+module _ (up : ℕ → ℕ) (g : Graph) (ok : List ℕ → Bool) (b : ℕ) (ns : List ℕ) where
+  pub settle-ends : (f : ℕ) → 0 < f → (c : ℕ) → c ≡ first-in (λ n. ok (g .bits n)) ns → c ≡ 0 → settle up g ok f b ns ≡ merge up (g .bits) ok 256 b ns
+  unfolding settle
+  settle-ends zero h c e d = absurd (omega arith)
+  settle-ends (suc f) h c e d = rw (← e, eq-eqb c 0 d)
 
-  pub settle-goes : c ≢ 0 → settle up g ok f b ns ≡ settle up g ok (pred f) c (children up g c)
-  settle-goes d = go f left
-    where
-      go : (f : ℕ) → 0 < f → settle up g ok f b ns ≡ settle up g ok (pred f) c (children up g c)
-      go zero h = absurd (omega arith)
-      go (suc f) h = unfold settle in rw (← told, ne-eqb c 0 d)
+  pub settle-goes : (f : ℕ) → 0 < f → (c : ℕ) → c ≡ first-in (λ n. ok (g .bits n)) ns → c ≢ 0
+      → settle up g ok f b ns ≡ settle up g ok (pred f) c (children up g c)
+  unfolding settle
+  settle-goes zero h c e d = absurd (omega arith)
+  settle-goes (suc f) h c e d = rw (← e, ne-eqb c 0 d)
 
 module _ (parents ids : List ℕ) (base count : ℕ) (g : Columns) (sound : Sound parents ids base count g) where
   pub followed-is : (b : ℕ) → followed parents (g .used) (g .above) (g .order) (g .listed) b ≡ following (col parents) (view g) b

@@ -1,12 +1,12 @@
 -- The search for the child in which nodes meet: what its two columns keep, and its turns; the descent to the merge point.
-use mathlib.Core.Bool.{Bool, true, false, cond, not}
+use mathlib.Core.Bool.{Bool, true, false, not}
 use mathlib.Core.List.{List, [], _∷_, _++_, append-nil}
-use mathlib.Core.Path.{_≡_, refl, sym, ap, subst, _∙_}
+use mathlib.Core.Path.{_≡_, refl, sym, ap, _∙_}
 use mathlib.Core.Logic.{_≢_}
-use Prim.Native.Nat.{ℕ, zero, suc, pred, _+_, _≤_, _<_}
+use Prim.Native.Nat.{ℕ, zero, suc, pred, _<_}
 use native.Mathlib.Decide.{ℕ-discrete}
 use native.Mathlib.Omega.{arith}
-use lib.Dec.{T, eqb}
+use lib.Dec.{eqb}
 use lib.ListN.{getD, set, length, length-set, replicate, length-replicate, getD-replicate}
 use lib.Seq.{getD-set-same, getD-set-other}
 use borrow.Author.Tests.{eq-eqb, ne-eqb}
@@ -16,6 +16,7 @@ use Rattle.loops.proofs.Listings.{times-here, times-more, keep-append, fold-app
 use Rattle.bitfield.specs.Bits.{joined}
 use Rattle.graph.specs.Graph.{no-bits, join-of}
 use Rattle.graph.specs.Ghost.{is-nil, under, towards, meets, merge}
+use Rattle.vote_search.proofs.Turns.{not-swap}
 
 -- one node more is joined
 join-more : (bits : ℕ → List ℕ) (l : List ℕ) (x : ℕ) → join-of bits (l ++ (x ∷ [])) ≡ joined (join-of bits l) (bits x)
@@ -87,11 +88,7 @@ module _ (up : ℕ → ℕ) (bits : ℕ → List ℕ) (b : ℕ) where
       other = ne-eqb x (towards up b x) (λ q. d (q ∙ sym e))
 
       nil : (z : Bool) → getD seen c false ≡ z → is-nil (going (towards up b x) l) ≡ not z
-      nil z q = rw (← e) (flip (is-nil (going c l)) z (sym q ∙ kept .marked c small))
-        where
-          flip : (a z : Bool) → z ≡ not a → a ≡ not z
-          flip true z r = ap not (sym r)
-          flip false z r = ap not (sym r)
+      nil z q = rw (← e) (not-swap (is-nil (going c l)) z (sym q ∙ kept .marked c small))
 
       asked : (z : Bool) → ok v ≡ z → ok (join-of bits (going (towards up b x) l ++ (x ∷ []))) ≡ z
       asked z r = rw (← e) (sym (ap ok total) ∙ r)
@@ -142,17 +139,14 @@ module _ (up : ℕ → ℕ) (bits : ℕ → List ℕ) (b : ℕ) where
         later c r = (r .0, times-more (r .0) n ns (r .1), r .2)
 
 -- the descent to the merge point
-module _ (up : ℕ → ℕ) (bits : ℕ → List ℕ) (ok : List ℕ → Bool) (f b : ℕ) (ns : List ℕ) (left : 0 < f) where
-  pub merge-ends : meets up bits ok b [] ns ≡ 0 → merge up bits ok f b ns ≡ b
-  merge-ends e = go f left
-    where
-      go : (f : ℕ) → 0 < f → merge up bits ok f b ns ≡ b
-      go zero h = absurd (omega arith)
-      go (suc f) h = unfold merge in rw (eq-eqb _ 0 e)
+module _ (up : ℕ → ℕ) (bits : ℕ → List ℕ) (ok : List ℕ → Bool) (b : ℕ) (ns : List ℕ) where
+  pub merge-ends : (f : ℕ) → 0 < f → meets up bits ok b [] ns ≡ 0 → merge up bits ok f b ns ≡ b
+  unfolding merge
+  merge-ends zero h e = absurd (omega arith)
+  merge-ends (suc f) h e = rw (eq-eqb _ 0 e)
 
-  pub merge-goes : (c : ℕ) → c ≡ meets up bits ok b [] ns → c ≢ 0 → merge up bits ok f b ns ≡ merge up bits ok (pred f) c (keep (under up c) ns)
-  merge-goes c e d = go f left
-    where
-      go : (f : ℕ) → 0 < f → merge up bits ok f b ns ≡ merge up bits ok (pred f) c (keep (under up c) ns)
-      go zero h = absurd (omega arith)
-      go (suc f) h = unfold merge in rw (← e, ne-eqb c 0 d)
+  pub merge-goes : (f : ℕ) → 0 < f → (c : ℕ) → c ≡ meets up bits ok b [] ns → c ≢ 0
+      → merge up bits ok f b ns ≡ merge up bits ok (pred f) c (keep (under up c) ns)
+  unfolding merge
+  merge-goes zero h c e d = absurd (omega arith)
+  merge-goes (suc f) h c e d = rw (← e, ne-eqb c 0 d)

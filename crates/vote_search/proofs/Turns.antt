@@ -1,14 +1,13 @@
 -- The turns of loops over the places of a column: what is left to run.
-use mathlib.Core.Bool.{Bool, true, false, cond}
+use mathlib.Core.Bool.{Bool, true, false, not}
 use mathlib.Core.List.{List, [], _∷_, _++_}
 use mathlib.Core.Path.{_≡_, refl, sym, ap, subst, _∙_}
 use mathlib.Core.Logic.{_≢_}
 use Prim.Native.Nat.{ℕ, zero, suc, _+_, _-_, _≤_, _<_}
 use native.Mathlib.Nat.{zero-add, add-zero}
 use native.Mathlib.Numerals.{add-one}
-use native.Mathlib.Decide.{ℕ-discrete}
 use native.Mathlib.Omega.{arith}
-use lib.Dec.{T, eqb}
+use lib.Dec.{eqb}
 use lib.ListN.{getD, length, length-append}
 use Rattle.loops.specs.Listing.{times, fold, front}
 use Rattle.loops.proofs.Tests.{by-test}
@@ -19,6 +18,10 @@ use Rattle.graph.specs.Search.{note}
 use Rattle.graph.specs.Ghost.{first-in}
 use Rattle.nodes.specs.declared.Places.{Places}
 use Rattle.nodes.specs.Nodes.{placed, found, held}
+
+pub not-swap : (a b : Bool) → b ≡ not a → a ≡ not b
+not-swap true b e = ap not (sym e)
+not-swap false b e = ap not (sym e)
 
 -- f places of a column from place k on
 unfoldable pub rest : ℕ → ℕ → List ℕ → List ℕ

@@ -12,8 +12,8 @@ use Rattle.nodes.specs.Nodes.{col, flag, row, found, listed-under}
 use Rattle.nodes.specs.Columns.{Columns, Sound}
 use Rattle.vote_search.specs.declared.Tally.{Tally}
 
--- a node's own bits, else the joined bits of the nodes found; no block is in the graph that has no node and is on no edge.
--- `tallied-is` says that the bits are `tally`.
+-- `cumulative_vote`: a node's own bits, else the joined bits of the nodes found. A block that has no node and is on no edge
+-- is not in the graph. `tallied-is` says that the bits are `tally`.
 unfoldable pub tallied : List ℕ → List Bool → List ℕ → List (List ℕ) → List ℕ → ℕ → ℕ → Tally
 tallied parents used above rows heads tips b =
     let ns = found (col parents) (col above) (front tips heads) b in
@@ -25,14 +25,14 @@ unfoldable pub followed : List ℕ → List Bool → List ℕ → List ℕ → �
 followed parents used above order listed b =
     keep (under (col parents) b) (listed-under (col above) (front listed order) (nearest (col parents) (flag used) b))
 
--- a block at or below the base, and columns that keep the shape rules on some table of ids
+-- a block at or below the base, on columns that keep the shape rules. No search is lent the ids or the count of the table.
 pub record Stands (parents : List ℕ) (base : ℕ) (g : Columns) (block : ℕ) : Type 0 where
   pub ids : List ℕ
   pub count : ℕ
   pub sound : Sound parents ids base count g
   pub in-base : T (below (col parents) base block)
 
--- the graph that a search sees to which the listing is not lent
+-- the graph without its listing, which `find_ancestor` is not lent; `ancestor-unlisted` says that it does not ask for it
 abbrev pub unlisted : List Bool → List (List ℕ) → List ℕ → ℕ → Graph
 unlisted used rows heads tips = record { used = flag used; bits = row rows; order = []; heads = front tips heads }
 

@@ -1,8 +1,7 @@
 // `cumulative_vote`, `find_ancestor` and `find_ghost` of vote_graph.rs, on lent columns.
 ghost use mathlib.Core.Path.{_≡_};
 ghost use mathlib.Core.List.{List, []};
-ghost use Prim.Native.Nat.{ℕ, _≤_, _<_};
-ghost use lib.Dec.{T};
+ghost use Prim.Native.Nat.{ℕ, _≤_};
 ghost use Rattle.loops.specs.Listing.{front};
 ghost use Rattle.graph.specs.Ghost.{find-ancestor, first-in, meets, merge, find-ghost};
 ghost use Rattle.nodes.specs.Nodes.{col, row, Falls, placed, passes};
@@ -50,7 +49,8 @@ pub fn cumulative_vote<'a>(
     }
 }
 
-// The first block from a block towards the base whose bits answer a question with yes.
+// The first block from a block towards the base whose bits answer a question with yes. Nothing where none does, or where
+// the block is not in the graph.
 pub fn find_ancestor<'a>(
     parents: &'a [u8; 256],
     used: &'a [bool; 256],

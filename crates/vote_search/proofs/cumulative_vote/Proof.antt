@@ -1,4 +1,3 @@
-use mathlib.Core.Path.{_≡_, sym, ap, _∙_}
 use native.Mathlib.Omega.{arith}
 use Rattle.vote_search.proofs.Turns.{found-few}
 use Rattle.vote_search.proofs.Ancestors.{tallied-node, tallied-bare}

@@ -1,13 +1,12 @@
 use borrow.Author.Needs.{needs}
-use mathlib.Core.Path.{_≡_, refl, sym, ap, subst, _∙_}
-use mathlib.Core.List.{List}
+use mathlib.Core.Path.{_≡_, sym, ap, subst, _∙_}
 use Prim.Native.Nat.{ℕ, _<_, _≤_, _-_, _+_, pred}
 use native.Mathlib.Omega.{arith}
 use borrow.Author.Tests.{not-true, not-false}
 use Rattle.loops.specs.Listing.{front}
-use Rattle.graph.specs.Ghost.{settle, following, find-ghost}
-use Rattle.nodes.specs.Nodes.{col, row, passes}
-use Rattle.nodes.specs.Columns.{Columns, view, as-found}
+use Rattle.graph.specs.Ghost.{settle, following}
+use Rattle.nodes.specs.Nodes.{col, passes}
+use Rattle.nodes.specs.Columns.{view, as-found}
 use Rattle.vote_search.specs.Searches.{Lower}
 use Rattle.vote_search.proofs.Turns.{placed-front, first-listed}
 use Rattle.nodes.proofs.Tied.{listed-is}
