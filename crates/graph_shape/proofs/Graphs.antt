@@ -1,16 +1,15 @@
 -- The test of the shape rules passes exactly on the columns that keep them.
 use mathlib.Core.Bool.{Bool, true, false, cond, not, _&&_, _||_}
-use mathlib.Core.List.{List, [], _∷_}
-use mathlib.Core.Path.{_≡_, refl, sym, ap, subst, _∙_}
+use mathlib.Core.List.{List}
+use mathlib.Core.Path.{_≡_, refl, sym, subst, _∙_}
 use mathlib.Core.Logic.{_≢_, _⊎_, inl, inr}
 use Prim.Native.Nat.{ℕ, zero, suc, pred, _≤_, _<_}
 use native.Mathlib.Decide.{decLt, ℕ-discrete}
 use native.Mathlib.Omega.{arith}
-use lib.Dec.{T, eqb, leb, ltb, eqb→eq, leb→le, ltb→lt, T-not, not-T}
-use lib.ListN.{getD, set, length, length-set, List·getD-eq-default}
+use lib.Dec.{T, eqb, ltb, eqb→eq, ltb→lt, T-not, not-T}
+use lib.ListN.{getD, length, length-set, List·getD-eq-default}
 use lib.Seq.{getD-set-other, ext-getD}
-use borrow.Author.Tests.{eq-eqb, le-leb, lt-ltb}
-use Rattle.loops.specs.All.{all}
+use borrow.Author.Tests.{eq-eqb, lt-ltb}
 use Rattle.loops.specs.Listing.{times, front}
 use Rattle.loops.proofs.Tests.{T-true, true-T, false-not, both, left-of, right-of, in-left, in-right, either, decT}
 use Rattle.loops.proofs.Alls.{all-at, all-intro}
@@ -21,7 +20,8 @@ use Rattle.graph.specs.Graph.{no-bits}
 use Rattle.graph.specs.Shape.{Tip, Nodes}
 use Rattle.nodes.specs.Nodes.{col, flag, row, Falls}
 use Rattle.nodes.specs.Columns.{Columns, Sound}
-use Rattle.graph_shape.specs.Graphed.{counted, inside, others, tied, struck, once-each, laid, childless, rising, zero-bits, bare, graphed, Sized, Clear}
+use Rattle.graph_shape.specs.Graphed.{counted, inside, others, tied, once-each, laid, childless, rising, zero-bits, bare, graphed, Sized, Clear}
+use Rattle.graph_shape.proofs.Counts.{Counts, counted-says, says-counted}
 use Rattle.graph_shape.proofs.Marks.{unset, struck-length, left-says, says-left, blank-padded, padded-blank, Once, once-says, says-once}
 use Rattle.graph_shape.proofs.Heads.{rising-says, says-rising}
 use Rattle.graph_shape.proofs.Tips.{above-earlier, tip-of, tip-lists}
@@ -123,36 +123,6 @@ module _ (places : List ℕ) (n : ℕ) (marks : List Bool) where
   says-laid : Once places n marks → T (blank places n 256) → T (laid places n marks)
   unfolding laid
   says-laid o b = both (once-each places n marks) _ (says-once places n marks o) b
-
-module _ (count base : ℕ) (used : List Bool) (listed tips : ℕ) where
-  pub record Counts : Type 0 where
-    pub few : count ≤ 256
-    pub listed-fits : listed ≤ 256
-    pub tips-fit : tips ≤ 256
-    pub in-table : base < count
-    pub base-used : T (flag used base)
-
-  counted-says : T (counted count base used listed tips) → Counts
-  unfolding counted
-  counted-says t =
-      let a = right-of (leb count 256) _ t in
-      let b = right-of (leb listed 256) _ a in
-      let c = right-of (leb tips 256) _ b in
-      record {
-        few = leb→le _ _ (left-of (leb count 256) _ t);
-        listed-fits = leb→le _ _ (left-of (leb listed 256) _ a);
-        tips-fit = leb→le _ _ (left-of (leb tips 256) _ b);
-        in-table = ltb→lt _ _ (left-of (ltb base count) _ c);
-        base-used = right-of (ltb base count) _ c;
-      }
-
-  says-counted : Counts → T (counted count base used listed tips)
-  unfolding counted
-  says-counted c =
-      both (leb count 256) _ (T-true (le-leb _ _ (c .few)))
-      (both (leb listed 256) _ (T-true (le-leb _ _ (c .listed-fits)))
-      (both (leb tips 256) _ (T-true (le-leb _ _ (c .tips-fit)))
-      (both (ltb base count) _ (T-true (lt-ltb _ _ (c .in-table))) (c .base-used))))
 
 module _ (parents ids : List ℕ) (base count : ℕ) (g : Columns) where
   -- each test of the whole

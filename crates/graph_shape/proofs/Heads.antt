@@ -1,15 +1,13 @@
 -- What it means that each head's id is above the one before.
-use mathlib.Core.Bool.{Bool, _||_}
+use mathlib.Core.Bool.{_||_}
 use mathlib.Core.List.{List, [], _∷_, _++_}
-use mathlib.Core.Path.{_≡_, refl, sym, ap, subst, _∙_}
-use mathlib.Core.Logic.{_≢_, _⊎_, inl, inr}
+use mathlib.Core.Path.{_≡_, subst}
+use mathlib.Core.Logic.{_⊎_, inl, inr}
 use Prim.Native.Nat.{ℕ, zero, suc, _-_, _≤_, _<_}
 use native.Mathlib.Decide.{ℕ-discrete}
 use native.Mathlib.Omega.{arith}
 use lib.Dec.{T, eqb, ltb, eqb→eq, ltb→lt}
-use lib.ListN.{getD}
 use borrow.Author.Tests.{eq-eqb, lt-ltb}
-use Rattle.loops.specs.All.{all}
 use Rattle.loops.specs.Listing.{times, front}
 use Rattle.loops.proofs.Tests.{T-true, in-left, in-right, either}
 use Rattle.loops.proofs.Alls.{all-at, all-intro}
@@ -17,7 +15,7 @@ use Rattle.loops.proofs.Listings.{times-none, times-here, times-past, times-mor
 use Rattle.graph.specs.Shape.{Rising}
 use Rattle.nodes.specs.Nodes.{col}
 use Rattle.graph_shape.specs.Graphed.{rising}
-use Rattle.graph_shape.proofs.Marks.{front-next, front-past, in-front}
+use Rattle.graph_shape.proofs.Marks.{front-past, in-front}
 
 module _ (ids : ℕ → ℕ) (x : ℕ) where
   -- one more at the end

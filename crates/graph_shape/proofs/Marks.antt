@@ -1,10 +1,10 @@
 -- What it means that the first places of a column are the marked ones, once each, and the rest 0.
-use mathlib.Core.Bool.{Bool, true, false, not, _&&_, _||_}
+use mathlib.Core.Bool.{Bool, false, not, _&&_, _||_}
 use mathlib.Core.List.{List, [], _∷_, _++_}
 use mathlib.Core.Path.{_≡_, refl, sym, ap, subst, _∙_}
 use mathlib.Core.Logic.{_≢_, _⊎_, inl, inr}
 use Prim.Native.Nat.{ℕ, zero, suc, _≤_, _<_}
-use native.Mathlib.Decide.{decLe, decLt, ℕ-discrete}
+use native.Mathlib.Decide.{decLt, ℕ-discrete}
 use native.Mathlib.Omega.{arith}
 use lib.Dec.{T, eqb, ltb, eqb→eq, ltb→lt, T-not, not-T}
 use lib.ListN.{getD, set, length, length-set, List·getD-append, List·getD-eq-default}
@@ -12,14 +12,14 @@ use lib.Seq.{getD-set-other, ext-getD, getD-at}
 use borrow.Author.Tests.{eq-eqb, ne-eqb, lt-ltb}
 use Rattle.loops.specs.All.{all}
 use Rattle.loops.specs.Listing.{times, some-of, fold, front}
-use Rattle.loops.proofs.Tests.{T-true, true-T, both, left-of, right-of, in-left, in-right, either, and-true, and-false, false-not}
+use Rattle.loops.proofs.Tests.{T-true, both, left-of, right-of, in-left, in-right, either, and-true, and-false}
 use Rattle.loops.proofs.Alls.{all-at, all-intro}
 use Rattle.loops.proofs.Listings.{times-none, times-end, times-not-end, some-at, some-intro, length-front}
 use Rattle.columns.specs.Lists.{padded}
 use Rattle.columns.proofs.Padded.{length-padded, get-padded}
 use Rattle.voter_set.specs.Good.{blank}
 use Rattle.nodes.specs.Nodes.{col, flag}
-use Rattle.graph_shape.specs.Graphed.{struck, unmarked, none-left, fresh, once-each, laid}
+use Rattle.graph_shape.specs.Graphed.{struck, unmarked, none-left, fresh, once-each}
 
 pub unset : (marks : List Bool) (x : ℕ) → getD (set marks x false) x false ≡ false
 unset [] x = refl

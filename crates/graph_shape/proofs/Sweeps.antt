@@ -1,25 +1,24 @@
 -- The turns of the sweeps down the table, and of the loops that strike marks out.
-use mathlib.Core.Bool.{Bool, true, false, cond, not, _&&_, _||_}
+use mathlib.Core.Bool.{Bool, true, false, cond, _&&_, _||_}
 use mathlib.Core.List.{List}
-use mathlib.Core.Path.{_≡_, refl, sym, ap, subst, _∙_}
-use mathlib.Core.Logic.{_≢_}
-use Prim.Native.Nat.{ℕ, zero, suc, pred, _+_, _≤_, _<_}
+use mathlib.Core.Path.{_≡_, refl, sym, ap, _∙_}
+use Prim.Native.Nat.{ℕ, pred, _+_, _≤_, _<_}
 use native.Mathlib.Decide.{ℕ-discrete}
 use native.Mathlib.Omega.{arith}
-use lib.Dec.{T, eqb, leb, ltb, leb→le}
-use lib.ListN.{getD, set, length, replicate, length-set, getD-replicate}
+use lib.Dec.{eqb, ltb}
+use lib.ListN.{getD, set, length, replicate, length-set}
 use lib.Seq.{getD-set-same, getD-set-other}
 use borrow.Author.Tests.{eq-eqb, ne-eqb, lt-ltb, le-ltb}
 use Rattle.loops.specs.All.{all}
 use Rattle.loops.specs.Listing.{front, fold}
-use Rattle.loops.proofs.Tests.{true-T, T-true, false-not, same-test, left-of, right-of}
+use Rattle.loops.proofs.Tests.{true-T, false-not, same-test}
 use Rattle.loops.proofs.Alls.{all-false}
 use Rattle.loops.proofs.Listings.{fold-front}
 use Rattle.grandpa.specs.Tree.{below}
 use Rattle.grandpa.proofs.Trees.{below-refl, below-up, below-trans, below-le, below-step}
 use Rattle.graph.specs.Search.{nearest}
 use Rattle.graph.proofs.Climbs.{until-here, until-next, until-root}
-use Rattle.graph_shape.specs.Graphed.{counted, struck, unmarked, none-left, fresh, once-each}
+use Rattle.graph_shape.specs.Graphed.{struck, unmarked, none-left, fresh, once-each}
 
 module _ (up : ℕ → ℕ) (falls : (k : ℕ) → up k ≤ pred k) where
   below-turn : (b k : ℕ) → (eqb k b || (ltb 0 k && below up b (up k))) ≡ below up b k
@@ -125,16 +124,3 @@ module _ (places : List ℕ) (marks : List Bool) where
       → none-left left ≡ once-each places n marks
   unfolding once-each
   once-end n k left h a e = rw (← h, a, e)
-
-module _ (count base : ℕ) (used : List Bool) (listed tips : ℕ) (passes : counted count base used listed tips ≡ true) where
-  pub counted-listed : listed ≤ 256
-  unfolding counted
-  counted-listed =
-      let t = T-true passes in
-      leb→le listed 256 (left-of (leb listed 256) _ (right-of (leb count 256) _ t))
-
-  pub counted-tips : tips ≤ 256
-  unfolding counted
-  counted-tips =
-      let t = T-true passes in
-      leb→le tips 256 (left-of (leb tips 256) _ (right-of (leb listed 256) _ (right-of (leb count 256) _ t)))

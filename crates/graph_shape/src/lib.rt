@@ -1,15 +1,13 @@
 // The shape rules of a vote graph that is handed in, tested on lent columns in one sweep down the table each: parents are
 // earlier, so that what is known of a parent is known by then.
 ghost use mathlib.Core.Path.{_≡_};
-ghost use mathlib.Core.Bool.{false, cond, not, _&&_, _||_};
-ghost use Prim.Native.Nat.{ℕ, pred, _-_, _≤_, _<_};
+ghost use mathlib.Core.Bool.{cond, not, _&&_, _||_};
+ghost use Prim.Native.Nat.{_-_, _≤_, _<_};
 ghost use lib.Dec.{eqb, ltb};
-ghost use lib.ListN.{getD, set, length};
 ghost use Rattle.loops.specs.Listing.{front};
 ghost use Rattle.voter_set.specs.Good.{blank};
-ghost use Rattle.nodes.specs.Nodes.{col, flag, Falls};
-ghost use Rattle.nodes.specs.Columns.{Columns};
-ghost use Rattle.graph_shape.specs.Graphed.{counted, inside, others, tied, unmarked, none-left, once-each, laid, childless, rising, zero-bits, bare, graphed};
+ghost use Rattle.nodes.specs.Nodes.{col, Falls};
+ghost use Rattle.graph_shape.specs.Graphed.{counted, inside, others, tied, none-left, once-each, laid, childless, rising, zero-bits, bare, graphed};
 use nodes::wide;
 
 // Whether the columns of a vote graph keep its shape rules, on a table of `count` blocks by their parents and ids.

@@ -1,8 +1,8 @@
-use mathlib.Core.Path.{_≡_, sym, _∙_}
-use mathlib.Core.Bool.{Bool, true, false}
+use mathlib.Core.Path.{sym, _∙_}
 use borrow.Author.Tests.{not-true, not-false}
 use Rattle.graph_shape.specs.Graphed.{graphed}
-use Rattle.graph_shape.proofs.Sweeps.{counted-listed, counted-tips}
+use Rattle.loops.proofs.Tests.{T-true}
+use Rattle.graph_shape.proofs.Counts.{counted-says}
 use borrow.Author.Needs.{needs}
 use Rattle.graph_shape.proofs.is_graph.Statement.{statement}
 use Rattle.graph_shape.proofs.is_graph.Tie as tie
@@ -42,24 +42,24 @@ unfolding graphed
 returns-3 c = rw (sym (c .before .before .before .before .before .before .before .counted .ensures) ∙ not-false _ (c .before .before .before .before .before .before .if1 .left), sym (c .before .before .before .before .before .inside .ensures) ∙ not-false _ (c .before .before .before .before .if2 .left), ← c .before .before .before .others .ensures, sym (c .before .tied .ensures) ∙ not-true _ (c .if3 .taken))
 
 laid-requires : tie.Need-laid-requires
-laid-requires c κs = counted-listed _ _ _ _ _ (sym (c .before .before .before .before .before .before .before .before .counted .ensures) ∙ not-false _ (c .before .before .before .before .before .before .before .if1 .left))
+laid-requires c κs = counted-says _ _ _ _ _ (T-true (sym (c .before .before .before .before .before .before .before .before .counted .ensures) ∙ not-false _ (c .before .before .before .before .before .before .before .if1 .left))) .listed-fits
 
 returns-4 : tie.Need-returns-4
 unfolding graphed
 returns-4 c = rw (sym (c .before .before .before .before .before .before .before .before .before .before .counted .ensures) ∙ not-false _ (c .before .before .before .before .before .before .before .before .before .if1 .left), sym (c .before .before .before .before .before .before .before .before .inside .ensures) ∙ not-false _ (c .before .before .before .before .before .before .before .if2 .left), ← c .before .before .before .before .before .before .others .ensures, sym (c .before .before .before .before .tied .ensures) ∙ not-false _ (c .before .before .before .if3 .left), sym (c .before .laid .ensures) ∙ not-true _ (c .if4 .taken))
 
 childless-requires : tie.Need-childless-requires
-childless-requires c κs = counted-listed _ _ _ _ _ (sym (c .before .before .before .before .before .before .before .before .before .before .counted .ensures) ∙ not-false _ (c .before .before .before .before .before .before .before .before .before .if1 .left))
+childless-requires c κs = counted-says _ _ _ _ _ (T-true (sym (c .before .before .before .before .before .before .before .before .before .before .counted .ensures) ∙ not-false _ (c .before .before .before .before .before .before .before .before .before .if1 .left))) .listed-fits
 
 laid-requires-2 : tie.Need-laid-requires-2
-laid-requires-2 c κs = counted-tips _ _ _ _ _ (sym (c .before .before .before .before .before .before .before .before .before .before .before .before .counted .ensures) ∙ not-false _ (c .before .before .before .before .before .before .before .before .before .before .before .if1 .left))
+laid-requires-2 c κs = counted-says _ _ _ _ _ (T-true (sym (c .before .before .before .before .before .before .before .before .before .before .before .before .counted .ensures) ∙ not-false _ (c .before .before .before .before .before .before .before .before .before .before .before .if1 .left))) .tips-fit
 
 returns-5 : tie.Need-returns-5
 unfolding graphed
 returns-5 c = rw (sym (c .before .before .before .before .before .before .before .before .before .before .before .before .before .before .counted .ensures) ∙ not-false _ (c .before .before .before .before .before .before .before .before .before .before .before .before .before .if1 .left), sym (c .before .before .before .before .before .before .before .before .before .before .before .before .inside .ensures) ∙ not-false _ (c .before .before .before .before .before .before .before .before .before .before .before .if2 .left), ← c .before .before .before .before .before .before .before .before .before .before .others .ensures, sym (c .before .before .before .before .before .before .before .before .tied .ensures) ∙ not-false _ (c .before .before .before .before .before .before .before .if3 .left), sym (c .before .before .before .before .before .laid .ensures) ∙ not-false _ (c .before .before .before .before .if4 .left), ← c .before .before .before .childless .ensures, sym (c .before .laid2 .ensures) ∙ not-true _ (c .if5 .taken))
 
 rising-requires : tie.Need-rising-requires
-rising-requires c κs = counted-tips _ _ _ _ _ (sym (c .before .before .before .before .before .before .before .before .before .before .before .before .before .before .counted .ensures) ∙ not-false _ (c .before .before .before .before .before .before .before .before .before .before .before .before .before .if1 .left))
+rising-requires c κs = counted-says _ _ _ _ _ (T-true (sym (c .before .before .before .before .before .before .before .before .before .before .before .before .before .before .counted .ensures) ∙ not-false _ (c .before .before .before .before .before .before .before .before .before .before .before .before .before .if1 .left))) .tips-fit
 
 returns-6 : tie.Need-returns-6
 unfolding graphed

@@ -1,4 +1,3 @@
-use borrow.Author.Needs.{needs}
 use Rattle.graph_shape.proofs.is_tied.Statement.{statement}
 use Rattle.graph_shape.proofs.is_tied.Tie as tie
 use Rattle.graph_shape.proofs.is_tied.Reads as reads

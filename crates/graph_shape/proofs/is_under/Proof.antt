@@ -1,4 +1,3 @@
-use borrow.Author.Needs.{needs}
 use Prim.Native.Nat.{_<_}
 use native.Mathlib.Omega.{arith}
 use borrow.Author.Tests.{eq-eqb, ne-eqb, lt-ltb}
