@@ -271,7 +271,7 @@ module _ (parents ids : List ℕ) (base count : ℕ) (g : Columns) where
               });
           within = says-inside parents count base (g .used) (λ x u. (s .nodes .tabled x u, s .nodes .inside x u));
           ties = says-tied parents (g .used) (others (g .used) base) (g .above)
-              (λ k r. let o = others-says (g .used) base k r in s .tied k (o .0) (o .1)) (λ k n. zero k n (decT (flag (g .used) k)) (ℕ-discrete k base));
+              (λ k r. let o = others-says (g .used) base k r in s .tied k (o .0) (o .1)) (λ k n. no-above k n (decT (flag (g .used) k)) (ℕ-discrete k base));
           lists = says-laid (g .order) (g .listed) (others (g .used) base)
               (record {
                 there = λ x r. let o = others-says (g .used) base x r in s .nodes .listed x (o .0) (o .1);
@@ -285,10 +285,10 @@ module _ (parents ids : List ℕ) (base count : ℕ) (g : Columns) where
           bares = says-bare (g .used) (g .rows) (c .bare-rows);
         }
       where
-        zero : (k : ℕ) → (T (flag (others (g .used) base) k) → ⊥) → Dec (T (flag (g .used) k)) → Dec (k ≡ base) → col (g .above) k ≡ 0
-        zero k n (no u) d = c .bare-above k (not-T (flag (g .used) k) u)
-        zero k n (yes u) (yes e) = rw e (c .base-above)
-        zero k n (yes u) (no d) = absurd (n (says-others (g .used) base k u d))
+        no-above : (k : ℕ) → (T (flag (others (g .used) base) k) → ⊥) → Dec (T (flag (g .used) k)) → Dec (k ≡ base) → col (g .above) k ≡ 0
+        no-above k n (no u) d = c .bare-above k (not-T (flag (g .used) k) u)
+        no-above k n (yes u) (yes e) = rw e (c .base-above)
+        no-above k n (yes u) (no d) = absurd (n (says-others (g .used) base k u d))
 
         head : (x : ℕ) → T (flag (g .used) x) × ((n : ℕ) → 0 < times n (front (g .listed) (g .order)) → col (g .above) n ≢ x)
             → times x (front (g .tips) (g .heads)) ≡ 1

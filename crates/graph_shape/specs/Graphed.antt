@@ -38,6 +38,7 @@ tied parents used rest above =
 unfoldable pub struck : (ℕ → ℕ) → List ℕ → List Bool → List Bool
 struck f places marks = fold (λ x m. set m (f x) false) places marks
 
+-- the places of a list struck out themselves
 abbrev pub unmarked : List ℕ → List Bool → List Bool
 unmarked places marks = struck (λ x. x) places marks
 
@@ -52,7 +53,7 @@ fresh places marks k = flag (unmarked (front k places) marks) (col places k)
 unfoldable pub once-each : List ℕ → ℕ → List Bool → Bool
 once-each places n marks = all n (fresh places marks) && none-left (unmarked (front n places) marks)
 
--- the rest 0
+-- and the rest of the column is 0
 unfoldable pub laid : List ℕ → ℕ → List Bool → Bool
 laid places n marks = once-each places n marks && blank places n 256
 
@@ -60,6 +61,7 @@ laid places n marks = once-each places n marks && blank places n 256
 abbrev pub childless : List Bool → List ℕ → List ℕ → List Bool
 childless used above order = struck (col above) order used
 
+-- each head's id is above the one before
 unfoldable pub rising : List ℕ → List ℕ → ℕ → Bool
 rising ids heads tips = all tips (λ k. eqb k 0 || ltb (col ids (col heads (k - 1))) (col ids (col heads k)))
 
@@ -70,7 +72,7 @@ zero-bits bits = eqb (getD bits 0 0) 0 && eqb (getD bits 1 0) 0
 unfoldable pub bare : List Bool → List (List ℕ) → Bool
 bare used rows = all 256 (λ k. flag used k || zero-bits (row rows k))
 
--- the whole test
+-- the whole test; `graphed-means` and `means-graphed` say that it passes on the columns that are `Sound` and `Clear`
 unfoldable pub graphed : List ℕ → List ℕ → ℕ → ℕ → Columns → Bool
 graphed parents ids base count g =
     counted count base (g .used) (g .listed) (g .tips)
