@@ -1,0 +1,170 @@
+// The answers of a round: `update` of round.rs and its two GHOSTs, on lent columns.
+use context::Phase;
+use grandpa::PossibleToPrecommit;
+use nodes::Condition;
+use nodes::Found;
+use nodes::Question;
+
+// The stored blocks by place: the Rust's `prevote_ghost` and `precommit_ghost`, `finalized`, `estimate`; and
+// `completable`.
+pub struct Answers {
+    pub prevote: Found,
+    pub precommit: Found,
+    pub finalized: Found,
+    pub estimate: Found,
+    pub completable: bool,
+}
+
+// Heard weights.
+pub struct Heard {
+    pub prevote: u64,
+    pub precommit: u64,
+}
+
+fn start_of(stored: Found, base: u8) -> u8
+{
+    match stored {
+        Found::At(block) => block,
+        Found::Nothing => base,
+    }
+}
+
+// The GHOST of a phase, worked out again from the stored one once heard weight reaches the threshold.
+pub fn phase_ghost<'a>(
+    parents: &'a [u8; 256],
+    used: &'a [bool; 256],
+    above: &'a [u8; 256],
+    rows: &'a [[u64; 2]; 256],
+    order: &'a [u8; 256],
+    listed: usize,
+    heads: &'a [u8; 256],
+    tips: usize,
+    weights: &'a [u64; 64],
+    base: u8,
+    threshold: u64,
+    equivocations: [u64; 2],
+    phase: Phase,
+    heard: u64,
+    stored: Found,
+) -> Found
+{
+    if heard < threshold {
+        return stored;
+    }
+    let start = start_of(stored, base);
+    let question = Question { phase, condition: Condition::AtLeast(threshold), equivocations };
+    vote_search::find_ghost(parents, used, above, rows, order, listed, heads, tips, weights, question, start)
+}
+
+// The stored answers, with the prevote-GHOST worked out again in a prevote import only.
+pub fn with_ghost<'a>(
+    parents: &'a [u8; 256],
+    used: &'a [bool; 256],
+    above: &'a [u8; 256],
+    rows: &'a [[u64; 2]; 256],
+    order: &'a [u8; 256],
+    listed: usize,
+    heads: &'a [u8; 256],
+    tips: usize,
+    weights: &'a [u64; 64],
+    base: u8,
+    threshold: u64,
+    equivocations: [u64; 2],
+    phase: Phase,
+    heard: Heard,
+    answers: Answers,
+) -> Answers
+{
+    match phase {
+        Phase::Prevote => {
+            let prevote = answers.prevote;
+            let found = phase_ghost(parents, used, above, rows, order, listed, heads, tips, weights, base, threshold, equivocations, Phase::Prevote, heard.prevote, prevote);
+            let precommit = answers.precommit;
+            let finalized = answers.finalized;
+            let estimate = answers.estimate;
+            Answers { prevote: found, precommit, finalized, estimate, completable: answers.completable }
+        }
+        Phase::Precommit => answers,
+    }
+}
+
+// Whether no block strictly below g can still be finalized.
+fn is_completable<'a>(
+    parents: &'a [u8; 256],
+    used: &'a [bool; 256],
+    above: &'a [u8; 256],
+    rows: &'a [[u64; 2]; 256],
+    order: &'a [u8; 256],
+    listed: usize,
+    heads: &'a [u8; 256],
+    tips: usize,
+    weights: &'a [u64; 64],
+    possible: Question,
+    g: u8,
+    estimate: Found,
+) -> bool
+{
+    let Found::At(block) = estimate else {
+        return false;
+    };
+    if block != g {
+        return true;
+    }
+    let Found::At(lowest) = vote_search::find_ghost(parents, used, above, rows, order, listed, heads, tips, weights, possible, block) else {
+        return true;
+    };
+    lowest == g
+}
+
+// `update`: finalized block, estimate and completable, from the stored prevote-GHOST.
+pub fn update<'a>(
+    parents: &'a [u8; 256],
+    used: &'a [bool; 256],
+    above: &'a [u8; 256],
+    rows: &'a [[u64; 2]; 256],
+    order: &'a [u8; 256],
+    listed: usize,
+    heads: &'a [u8; 256],
+    tips: usize,
+    weights: &'a [u64; 64],
+    base: u8,
+    total: u64,
+    threshold: u64,
+    equivocations: [u64; 2],
+    heard: Heard,
+    answers: Answers,
+) -> Answers
+{
+    if heard.prevote < threshold {
+        return answers;
+    }
+    let prevote = answers.prevote;
+    let precommit = answers.precommit;
+    let Found::At(g) = prevote else {
+        return answers;
+    };
+    if heard.precommit < threshold {
+        let finalized = answers.finalized;
+        return Answers {
+            prevote,
+            precommit,
+            finalized,
+            estimate: Found::At(g),
+            completable: answers.completable,
+        };
+    }
+    let weighty = Question { phase: Phase::Precommit, condition: Condition::AtLeast(threshold), equivocations };
+    let finalized = vote_search::find_ancestor(parents, used, above, rows, heads, tips, weights, base, weighty, g);
+    let equivocated = context::weighing::weight(weights, equivocations, Phase::Precommit);
+    let still = PossibleToPrecommit::new(total, threshold, heard.precommit, equivocated);
+    let possible = Question { phase: Phase::Precommit, condition: Condition::Possible(still), equivocations };
+    let estimate = vote_search::find_ancestor(parents, used, above, rows, heads, tips, weights, base, possible, g);
+    let completable = is_completable(parents, used, above, rows, order, listed, heads, tips, weights, possible, g, estimate);
+    Answers {
+        prevote,
+        precommit,
+        finalized,
+        estimate,
+        completable,
+    }
+}
