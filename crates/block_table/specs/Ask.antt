@@ -1,22 +1,22 @@
 -- Asking a table. Document 01, "Porting order" 5: an ancestor at a given number is found by climbing; "Sizes": below means
 -- further from the root; "Refusal numbers" 9.
 use mathlib.Core.Bool.{Bool, true, false, cond, _&&_}
-use mathlib.Core.List.{List}
-use Prim.Native.Nat.{ℕ, _-_}
+use Prim.Native.Nat.{ℕ}
 use lib.Dec.{leb, ltb}
 use lib.ListN.{getD}
-use Rattle.grandpa.specs.Tree.{climb, below}
-use Rattle.block_table.specs.declared.BlockTable.{BlockTable}
-use Rattle.block_table.specs.declared.Place.{Place}
-use Rattle.block_table.specs.declared.Place.the-variants as place
+use Rattle.grandpa.specs.Tree.{below}
+use Rattle.blocks.specs.declared.BlockTable.{BlockTable}
+use Rattle.blocks.specs.declared.Place.{Place}
+use Rattle.blocks.specs.declared.Place.the-variants as place
 use Rattle.block_table.specs.declared.Block.{Block}
 use Rattle.block_table.specs.declared.Block.the-variants.{At, Nothing, Refused}
-use Rattle.block_table.specs.declared.Number.{Number}
-use Rattle.block_table.specs.declared.Number.the-variants as numbered
+use Rattle.block_table.specs.declared.BlockNumber.{BlockNumber}
+use Rattle.block_table.specs.declared.BlockNumber.the-variants as numbered
 use Rattle.block_table.specs.declared.Below.{Below}
 use Rattle.block_table.specs.declared.Below.the-variants as lies
-use Rattle.block_table.specs.Shape.{up, tabled}
-use Rattle.block_table.specs.Add.{place-of}
+use Rattle.blocks.specs.Table.{up, climbed}
+use Rattle.blocks.specs.Add.{place-of}
+use Rattle.block_shape.specs.Shape.{tabled}
 
 abbrev pub as-block : Place → Block
 as-block (place.At k) = At k
@@ -25,12 +25,8 @@ as-block place.Nothing = Nothing
 unfoldable pub find : BlockTable → ℕ → Block
 find t id = cond (tabled t) (as-block (place-of (t .ids) (t .count) id)) (Refused 9)
 
-unfoldable pub number : BlockTable → ℕ → Number
+unfoldable pub number : BlockTable → ℕ → BlockNumber
 number t b = cond (tabled t) (cond (ltb b (t .count)) (numbered.Is (getD (t .numbers) b 0)) numbered.Nothing) (numbered.Refused 9)
-
--- as many steps up as b's number is above the wanted one
-unfoldable pub climbed : List ℕ → List ℕ → ℕ → ℕ → ℕ
-climbed parents numbers b wanted = climb (up parents) (getD numbers b 0 - wanted) b
 
 -- no block above the root, and none below b
 unfoldable pub ancestor-at : BlockTable → ℕ → ℕ → Block

@@ -1,43 +1,14 @@
-// The blocks that a round knows: the `Chain` of lib.rs, which is a trait there, as a table that is held.
+// The table of blocks by value: every call tests what it is handed, and refuses a table that breaks the shape rules.
 ghost use mathlib.Core.Path.{_≡_};
-ghost use Rattle.block_table.specs.Shape.{tabled};
+ghost use Rattle.block_shape.specs.Shape.{tabled};
 ghost use Rattle.block_table.specs.Add.{opened, add};
 ghost use Rattle.block_table.specs.Ask.{find, number, ancestor-at, is-at-or-below};
+pub use blocks::Added;
+pub use blocks::Answer;
+pub use blocks::BlockTable;
+pub use blocks::Place;
 
-// The inner calls on lent columns.
-pub mod inner;
-// The shape test.
-pub mod shape;
-
-// The blocks by place, with unused places 0. A parent is a place; the root is its own. The fields are public, so that
-// the columns can be lent: a table of anyone's making can be handed in, and `is_table` tells it from one that was
-// built by calls.
-pub struct BlockTable {
-    pub ids: [u32; 256],
-    pub numbers: [u32; 256],
-    pub parents: [u8; 256],
-    pub count: usize,
-}
-
-// What adding a block gives: its place, or the number of the refusal.
-pub enum Answer {
-    Placed(u8),
-    Refused(u8),
-}
-
-// The answer and the table beside it: an enum holds no array.
-pub struct Added {
-    pub answer: Answer,
-    pub table: BlockTable,
-}
-
-// Where a block stands.
-pub enum Place {
-    At(u8),
-    Nothing,
-}
-
-// The same, asked of a table of anyone's making.
+// Where a block stands, asked of a table of anyone's making.
 pub enum Block {
     At(u8),
     Nothing,
@@ -45,7 +16,7 @@ pub enum Block {
 }
 
 // A block's number.
-pub enum Number {
+pub enum BlockNumber {
     Is(u32),
     Nothing,
     Refused(u8),
@@ -58,117 +29,119 @@ pub enum Below {
     Refused(u8),
 }
 
-impl BlockTable {
-    // A root with its number, and no other block.
-    pub fn new(root: u32, number: u32) -> BlockTable
-        ensures { λ r. ⌜ r ≡ opened root number ⌝ }
-    {
-        let mut ids = [0u32; 256];
-        let mut numbers = [0u32; 256];
-        let parents = [0u8; 256];
-        ids[0] = root;
-        numbers[0] = number;
-        BlockTable {
-            ids,
-            numbers,
-            parents,
-            count: 1,
-        }
+// A root with its number, and no other block.
+pub fn new(root: u32, number: u32) -> BlockTable
+    ensures { λ r. ⌜ r ≡ opened root number ⌝ }
+{
+    let mut ids = [0u32; 256];
+    let mut numbers = [0u32; 256];
+    let parents = [0u8; 256];
+    ids[0] = root;
+    numbers[0] = number;
+    BlockTable {
+        ids,
+        numbers,
+        parents,
+        count: 1,
     }
+}
 
-    // Whether the table keeps the shape rules.
-    pub fn is_table(self) -> bool
-        ensures { λ r. ⌜ r ≡ tabled self ⌝ }
-    {
-        shape::is_table(&self.ids, &self.numbers, &self.parents, self.count)
-    }
+// Whether the table keeps the shape rules.
+pub fn is_table(table: BlockTable) -> bool
+    ensures { λ r. ⌜ r ≡ tabled table ⌝ }
+{
+    block_shape::is_table(&table.ids, &table.numbers, &table.parents, table.count)
+}
 
-    // One more block, under a parent that is named by its id.
-    pub fn add(mut self, id: u32, parent: u32) -> Added
-        ensures { λ r. ⌜ r ≡ add self id parent ⌝ }
-    {
-        if !self.is_table() {
-            return Added {
-                answer: Answer::Refused(9),
-                table: self,
-            };
-        }
-        let mut ids = self.ids;
-        let mut numbers = self.numbers;
-        let mut parents = self.parents;
-        let answer = inner::add(&mut ids, &mut numbers, &mut parents, self.count, id, parent);
-        self.ids = ids;
-        self.numbers = numbers;
-        self.parents = parents;
-        self.count = inner::counted(self.count, answer);
-        Added {
-            answer,
-            table: self,
-        }
-    }
-
-    // The block with this id.
-    pub fn find(self, id: u32) -> Block
-        ensures { λ r. ⌜ r ≡ find self id ⌝ }
-    {
-        if !self.is_table() {
-            return Block::Refused(9);
-        }
-        let Place::At(place) = inner::find(&self.ids, self.count, id) else {
-            return Block::Nothing;
+// One more block, under a parent that is named by its id.
+pub fn add(mut table: BlockTable, id: u32, parent: u32) -> Added
+    ensures { λ r. ⌜ r ≡ add table id parent ⌝ }
+{
+    if !is_table(table) {
+        return Added {
+            answer: Answer::Refused(9),
+            table,
         };
-        Block::At(place)
     }
+    let mut ids = table.ids;
+    let mut numbers = table.numbers;
+    let mut parents = table.parents;
+    let answer = blocks::add(
+        &mut ids,
+        &mut numbers,
+        &mut parents,
+        table.count,
+        id,
+        parent,
+    );
+    table.ids = ids;
+    table.numbers = numbers;
+    table.parents = parents;
+    table.count = blocks::counted(table.count, answer);
+    Added { answer, table }
+}
 
-    // The number of the block at a place.
-    pub fn number(self, block: u8) -> Number
-        ensures { λ r. ⌜ r ≡ number self block ⌝ }
-    {
-        if !self.is_table() {
-            return Number::Refused(9);
-        }
-        if self.count <= block as usize {
-            return Number::Nothing;
-        }
-        Number::Is(inner::number(&self.numbers, block))
+// The block with this id.
+pub fn find(table: BlockTable, id: u32) -> Block
+    ensures { λ r. ⌜ r ≡ find table id ⌝ }
+{
+    if !is_table(table) {
+        return Block::Refused(9);
     }
+    let Place::At(place) = blocks::find(&table.ids, table.count, id) else {
+        return Block::Nothing;
+    };
+    Block::At(place)
+}
 
-    // The block of this number on the way from a block to the root.
-    pub fn ancestor_at(self, block: u8, wanted: u32) -> Block
-        ensures { λ r. ⌜ r ≡ ancestor-at self block wanted ⌝ }
-    {
-        if !self.is_table() {
-            return Block::Refused(9);
-        }
-        if self.count <= block as usize {
-            return Block::Nothing;
-        }
-        if wanted < inner::number(&self.numbers, 0) {
-            return Block::Nothing;
-        }
-        if inner::number(&self.numbers, block) < wanted {
-            return Block::Nothing;
-        }
-        Block::At(inner::ancestor_at(&self.parents, &self.numbers, block, wanted))
+// The number of the block at a place.
+pub fn number(table: BlockTable, block: u8) -> BlockNumber
+    ensures { λ r. ⌜ r ≡ number table block ⌝ }
+{
+    if !is_table(table) {
+        return BlockNumber::Refused(9);
     }
+    if table.count <= block as usize {
+        return BlockNumber::Nothing;
+    }
+    BlockNumber::Is(blocks::number(&table.numbers, block))
+}
 
-    // The Rust's `is_equal_or_descendent_of`.
-    pub fn is_at_or_below(self, base: u8, block: u8) -> Below
-        ensures { λ r. ⌜ r ≡ is-at-or-below self base block ⌝ }
-    {
-        if !self.is_table() {
-            return Below::Refused(9);
-        }
-        if self.count <= base as usize {
-            return Below::No;
-        }
-        if self.count <= block as usize {
-            return Below::No;
-        }
-        if inner::is_at_or_below(&self.parents, &self.numbers, base, block) {
-            Below::Yes
-        } else {
-            Below::No
-        }
+// The block of this number on the way from a block to the root.
+pub fn ancestor_at(table: BlockTable, block: u8, wanted: u32) -> Block
+    ensures { λ r. ⌜ r ≡ ancestor-at table block wanted ⌝ }
+{
+    if !is_table(table) {
+        return Block::Refused(9);
+    }
+    if table.count <= block as usize {
+        return Block::Nothing;
+    }
+    if wanted < blocks::number(&table.numbers, 0) {
+        return Block::Nothing;
+    }
+    if blocks::number(&table.numbers, block) < wanted {
+        return Block::Nothing;
+    }
+    Block::At(blocks::ancestor_at(&table.parents, &table.numbers, block, wanted))
+}
+
+// The Rust's `is_equal_or_descendent_of`.
+pub fn is_at_or_below(table: BlockTable, base: u8, block: u8) -> Below
+    ensures { λ r. ⌜ r ≡ is-at-or-below table base block ⌝ }
+{
+    if !is_table(table) {
+        return Below::Refused(9);
+    }
+    if table.count <= base as usize {
+        return Below::No;
+    }
+    if table.count <= block as usize {
+        return Below::No;
+    }
+    if blocks::is_at_or_below(&table.parents, &table.numbers, base, block) {
+        Below::Yes
+    } else {
+        Below::No
     }
 }

@@ -1,0 +1,1 @@
+// No code: what adding a block and asking a table mean, and worked examples.
