@@ -1,7 +1,7 @@
 // How a vote is taken: `import_prevote` and `import_precommit` of round.rs, on lent columns.
 use answers::Answers;
 use answers::Heard;
-use block_table::Place;
+use blocks::Place;
 use context::Phase;
 use nodes::wide;
 use tracker::AddVoteResult;
@@ -61,7 +61,7 @@ pub fn judge_first<'a>(
     pair: Pair,
 ) -> Verdict
 {
-    let Place::At(block) = block_table::inner::find(ids, blocks, pair.target) else {
+    let Place::At(block) = blocks::find(ids, blocks, pair.target) else {
         return Verdict::Nothing(ImportResult::Refused(11));
     };
     if heights[wide(block)] != pair.number {

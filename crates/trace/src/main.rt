@@ -1,7 +1,7 @@
 use answers::Answers;
 use answers::Heard;
-use block_table::Place;
-use block_table::Answer;
+use blocks::Place;
+use blocks::Answer;
 use context::Phase;
 use importing::ImportResult;
 use importing::Standing;
@@ -242,7 +242,7 @@ fn replay(s: &[u8], out: &mut [u8]) -> usize {
             if turn == 0 {
                 return refused_from(out, o, 18, k);
             }
-            let a = block_table::inner::add(&mut ids, &mut numbers, &mut parents, blocks, u32_at(s, p), u32_at(s, p + 4));
+            let a = blocks::add(&mut ids, &mut numbers, &mut parents, blocks, u32_at(s, p), u32_at(s, p + 4));
             match a {
                 Answer::Refused(n) => {
                     return refused_from(out, o, n as u64, k);
@@ -258,7 +258,7 @@ fn replay(s: &[u8], out: &mut [u8]) -> usize {
                 return refused_from(out, o, 18, k);
             }
             round = u64_at(s, p);
-            let Place::At(b) = block_table::inner::find(&ids, blocks, u32_at(s, p + 8)) else {
+            let Place::At(b) = blocks::find(&ids, blocks, u32_at(s, p + 8)) else {
                 return refused_from(out, o, 10, k);
             };
             base = b;
