@@ -10,8 +10,7 @@ pub enum Wanted {
     Finalizing(u8),
 }
 
-fn odd(phase: Phase) -> usize
-{
+fn odd(phase: Phase) -> usize {
     match phase {
         Phase::Prevote => 0,
         Phase::Precommit => 1,
@@ -19,16 +18,26 @@ fn odd(phase: Phase) -> usize
 }
 
 // A single vote is wanted where it is at or below the block, both of an equivocator always.
-fn finalizes<'a>(times: &'a [u8; 128], places: &'a [u8; 128], parents: &'a [u8; 256], block: u8, at: usize) -> bool
-{
+fn finalizes<'a>(
+    times: &'a [u8; 128],
+    places: &'a [u8; 128],
+    parents: &'a [u8; 256],
+    block: u8,
+    at: usize,
+) -> bool {
     if times[at] != 1 {
         return true;
     }
     nodes::reaches(parents, block, places[at])
 }
 
-fn wants<'a>(times: &'a [u8; 128], places: &'a [u8; 128], parents: &'a [u8; 256], wanted: Wanted, entry: usize) -> bool
-{
+fn wants<'a>(
+    times: &'a [u8; 128],
+    places: &'a [u8; 128],
+    parents: &'a [u8; 256],
+    wanted: Wanted,
+    entry: usize,
+) -> bool {
     let at = entry / 2;
     if wide(times[at]) <= entry % 2 {
         return false;
@@ -44,8 +53,13 @@ fn wants<'a>(times: &'a [u8; 128], places: &'a [u8; 128], parents: &'a [u8; 256]
     }
 }
 
-pub fn entries_of<'a>(times: &'a [u8; 128], places: &'a [u8; 128], parents: &'a [u8; 256], size: usize, wanted: Wanted) -> Places
-{
+pub fn entries_of<'a>(
+    times: &'a [u8; 128],
+    places: &'a [u8; 128],
+    parents: &'a [u8; 256],
+    size: usize,
+    wanted: Wanted,
+) -> Places {
     let mut entries = [0u8; 256];
     let mut n = 0;
     for e in 0..4 * size {
@@ -55,5 +69,8 @@ pub fn entries_of<'a>(times: &'a [u8; 128], places: &'a [u8; 128], parents: &'a 
         entries[n] = e as u8;
         n = n + 1;
     }
-    Places { places: entries, count: n }
+    Places {
+        places: entries,
+        count: n,
+    }
 }
