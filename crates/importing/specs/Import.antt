@@ -54,11 +54,9 @@ scene f h =
       parents = f .table .parents;
       base = f .base;
       weights = f .voters .weights;
-      total = f .voters .total;
       threshold = f .voters .threshold;
       graph = h .graph;
       equivocations = h .equivocations;
-      heard = h .heard;
     }
 
 abbrev pub with-answers : Held → Answers → Held
@@ -75,7 +73,7 @@ with-answers h a =
 
 -- the answers after a vote in a phase was recorded
 abbrev pub updated : Frame → Phase → Held → Held
-updated f phase h = with-answers h (told-after (scene f h) phase (h .answers))
+updated f phase h = with-answers h (told-after (scene f h) (f .voters .total) (h .heard) phase (h .answers))
 
 abbrev pub with-heard : Phase → ℕ → Heard → Heard
 with-heard Prevote w h = record { prevote = plus (h .prevote) w; precommit = h .precommit }
