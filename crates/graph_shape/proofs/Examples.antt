@@ -6,7 +6,7 @@ use Prim.Native.Nat.{ℕ}
 use lib.ListN.{replicate}
 use Rattle.loops.specs.All.{all}
 use Rattle.loops.specs.Listing.{fold, front}
-use Rattle.voter_set.specs.Good.{blank}
+use Rattle.columns.specs.Blank.{blank}
 use Rattle.grandpa.specs.Tree.{within, below}
 use Rattle.graph.specs.Search.{until, nearest}
 use Rattle.nodes.specs.Columns.{Columns}

@@ -13,7 +13,7 @@ use borrow.Author.Tests.{eq-eqb, lt-ltb}
 use Rattle.loops.specs.Listing.{times, front}
 use Rattle.loops.proofs.Tests.{T-true, true-T, false-not, both, left-of, right-of, in-left, in-right, either, decT}
 use Rattle.loops.proofs.Alls.{all-at, all-intro}
-use Rattle.voter_set.specs.Good.{blank}
+use Rattle.columns.specs.Blank.{blank}
 use Rattle.grandpa.specs.Tree.{below}
 use Rattle.graph.specs.Search.{nearest}
 use Rattle.graph.specs.Graph.{no-bits}

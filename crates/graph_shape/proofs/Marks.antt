@@ -17,7 +17,7 @@ use Rattle.loops.proofs.Alls.{all-at, all-intro}
 use Rattle.loops.proofs.Listings.{times-none, times-end, times-not-end, some-at, some-intro, length-front}
 use Rattle.columns.specs.Lists.{padded}
 use Rattle.columns.proofs.Padded.{length-padded, get-padded}
-use Rattle.voter_set.specs.Good.{blank}
+use Rattle.columns.specs.Blank.{blank}
 use Rattle.nodes.specs.Nodes.{col, flag}
 use Rattle.graph_shape.specs.Graphed.{struck, unmarked, none-left, fresh, once-each}
 

@@ -9,7 +9,7 @@ use lib.Dec.{T, eqb, leb, ltb}
 use lib.ListN.{getD, set, length}
 use Rattle.loops.specs.All.{all}
 use Rattle.loops.specs.Listing.{fold, front}
-use Rattle.voter_set.specs.Good.{blank}
+use Rattle.columns.specs.Blank.{blank}
 use Rattle.grandpa.specs.Tree.{below}
 use Rattle.graph.specs.Search.{nearest}
 use Rattle.graph.specs.Graph.{no-bits}

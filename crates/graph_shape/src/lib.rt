@@ -5,7 +5,7 @@ ghost use mathlib.Core.Bool.{cond, not, _&&_, _||_};
 ghost use Prim.Native.Nat.{_-_, _≤_, _<_};
 ghost use lib.Dec.{eqb, ltb};
 ghost use Rattle.loops.specs.Listing.{front};
-ghost use Rattle.voter_set.specs.Good.{blank};
+ghost use Rattle.columns.specs.Blank.{blank};
 ghost use Rattle.nodes.specs.Nodes.{col, Falls};
 ghost use Rattle.graph_shape.specs.Graphed.{counted, inside, others, tied, none-left, once-each, laid, childless, rising, zero-bits, bare, graphed};
 use nodes::wide;

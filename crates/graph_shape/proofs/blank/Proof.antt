@@ -6,8 +6,8 @@ use native.Mathlib.Nat.{le-antisymm}
 use native.Mathlib.Omega.{arith}
 use borrow.Author.Tests.{eq-eqb, ne-eqb, le-ltb}
 use Rattle.loops.proofs.Alls.{all-false}
-use Rattle.voter_set.specs.Good.{blank}
-use Rattle.voter_set.proofs.Turns.{blank-none, blank-next}
+use Rattle.columns.specs.Blank.{blank}
+use Rattle.columns.proofs.Blanks.{blank-none, blank-next}
 use Rattle.graph_shape.proofs.blank.Statement.{statement}
 use Rattle.graph_shape.proofs.blank.Tie as tie
 use Rattle.graph_shape.proofs.blank.Reads as reads
