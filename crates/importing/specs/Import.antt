@@ -10,7 +10,7 @@ use lib.Dec.{T}
 use lib.ListN.{set, length}
 use Rattle.weights.specs.Weights.{plus}
 use Rattle.voter_set.specs.declared.VoterSet.{VoterSet}
-use Rattle.voter_set.specs.declared.VoterInfo.{VoterInfo}
+use Rattle.voter_info.specs.declared.VoterInfo.{VoterInfo}
 use Rattle.blocks.specs.declared.BlockTable.{BlockTable}
 use Rattle.bitfield.specs.Bits.{put}
 use Rattle.context.specs.declared.Phase.{Phase}

@@ -7,10 +7,10 @@ use native.Mathlib.Omega.{arith}
 use lib.Dec.{T, eqb, eqb→eq}
 use Rattle.loops.proofs.Tests.{T-true}
 use Rattle.grandpa.specs.Tree.{below}
-use Rattle.voter_set.specs.declared.VoterInfo.{VoterInfo}
-use Rattle.voter_set.specs.declared.Lookup.{Lookup}
-use Rattle.voter_set.specs.declared.Lookup.the-variants.{Voter, Outside}
-use Rattle.voter_set.specs.Lookup.{look-up}
+use Rattle.voter_info.specs.declared.VoterInfo.{VoterInfo}
+use Rattle.voter_info.specs.declared.Lookup.{Lookup}
+use Rattle.voter_info.specs.declared.Lookup.the-variants.{Voter, Outside}
+use Rattle.voter_info.specs.Info.{look-up}
 use Rattle.blocks.specs.declared.Place.{Place}
 use Rattle.blocks.specs.declared.Place.the-variants as place
 use Rattle.blocks.specs.Add.{place-of, on-place}

@@ -7,10 +7,10 @@ use Rattle.columns.specs.declared.Found.{Found}
 use Rattle.columns.specs.declared.Found.the-variants.{At, Nothing}
 use Rattle.columns.specs.Find.{find}
 use Rattle.columns.proofs.Finds.{find-at}
-use Rattle.voter_set.specs.declared.VoterInfo.{VoterInfo}
-use Rattle.voter_set.specs.declared.Lookup.the-variants.{Voter, Outside}
-use Rattle.voter_set.specs.Lookup.{look-up}
-use Rattle.voter_set.proofs.Lookups.{look-up-at, look-up-nothing, info-says}
+use Rattle.voter_info.specs.declared.VoterInfo.{VoterInfo}
+use Rattle.voter_info.specs.declared.Lookup.the-variants.{Voter, Outside}
+use Rattle.voter_info.specs.Info.{look-up}
+use Rattle.voter_info.proofs.Infos.{look-up-at, look-up-nothing, info-says}
 
 pub position-inside : (ids weights : List ℕ) (n x : ℕ) (v : VoterInfo) → look-up ids weights n x ≡ Voter v → v .position < n
 position-inside ids weights n x v e = go (find ids n x) refl

@@ -5,10 +5,10 @@ use mathlib.Core.List.{List}
 use Prim.Native.Nat.{ℕ}
 use lib.Dec.{eqb}
 use Rattle.grandpa.specs.Tree.{below}
-use Rattle.voter_set.specs.declared.VoterInfo.{VoterInfo}
-use Rattle.voter_set.specs.declared.Lookup.{Lookup}
-use Rattle.voter_set.specs.declared.Lookup.the-variants.{Voter, Outside}
-use Rattle.voter_set.specs.Lookup.{look-up}
+use Rattle.voter_info.specs.declared.VoterInfo.{VoterInfo}
+use Rattle.voter_info.specs.declared.Lookup.{Lookup}
+use Rattle.voter_info.specs.declared.Lookup.the-variants.{Voter, Outside}
+use Rattle.voter_info.specs.Info.{look-up}
 use Rattle.blocks.specs.Add.{place-of, on-place}
 use Rattle.context.specs.declared.Phase.{Phase}
 use Rattle.context.specs.Votes.{bit}

@@ -9,8 +9,8 @@ use context::Phase;
 use nodes::wide;
 use tracker::AddVoteResult;
 use tracker::Pair;
-use voter_set::Lookup;
-use voter_set::VoterInfo;
+use voter_info::Lookup;
+use voter_info::VoterInfo;
 
 // Both pairs of an equivocator in arrival order.
 pub struct Equivocation {
@@ -97,7 +97,7 @@ pub fn judge<'a>(
     requires { ⌜ (Falls (now parents)) × (blocks ≤ 256) × (size ≤ 64) ⌝ }
     ensures { λ r. ⌜ r ≡ judge (now (voters .entry)) (now (weights .entry)) size (now (ids .entry)) (now (heights .entry)) (now (parents .entry)) blocks base (record { times = now (times .entry); places = now (places .entry); signatures = now (signatures .entry); targets = now (targets .entry); numbers = now (numbers .entry); seconds = now (seconds .entry) }) phase signer pair ⌝ }
 {
-    let Lookup::Voter(info) = voter_set::look_up(voters, weights, size, signer) else {
+    let Lookup::Voter(info) = voter_info::look_up(voters, weights, size, signer) else {
         return Verdict::Nothing(ImportResult::Outside);
     };
     let at = index(info.position, phase);

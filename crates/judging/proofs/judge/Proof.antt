@@ -11,7 +11,7 @@ use Rattle.judging.proofs.index.Reads as index-reads
 use Rattle.judging.proofs.judge_first.Reads as judge-first-reads
 use Rattle.tracker.proofs.add_vote.Reads as add-vote-reads
 use Rattle.tracker.proofs.recorded.Reads as recorded-reads
-use Rattle.voter_set.proofs.look_up.Reads as look-up-reads
+use Rattle.voter_info.proofs.look_up.Reads as look-up-reads
 
 -- src/lib.rt:90:31
 look-up-requires : tie.Need-look-up-requires
