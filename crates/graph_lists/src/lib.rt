@@ -7,7 +7,7 @@ ghost use Rattle.loops.specs.Listing.{front};
 ghost use Rattle.voter_set.specs.Good.{blank};
 ghost use Rattle.nodes.specs.Nodes.{col};
 ghost use Rattle.graph_lists.specs.Listed.{none-left, once-each, laid, childless, rising, zero-bits, bare};
-use nodes::wide;
+use climbs::wide;
 
 // Whether the first places of a column are the marked ones, once each, and the rest of it is 0.
 pub fn laid<'a>(places: &'a [u8; 256], n: usize, marks: &'a [bool; 256]) -> bool

@@ -2,7 +2,7 @@
 ghost use mathlib.Core.Path.{_≡_};
 ghost use Rattle.nodes.specs.Nodes.{Falls};
 ghost use Rattle.graph_shape.specs.Graphed.{counted, others, graphed};
-use nodes::wide;
+use climbs::wide;
 
 // Whether the columns of a vote graph keep its shape rules, on a table of `count` blocks by their parents and ids.
 pub fn is_graph<'a>(

@@ -6,7 +6,7 @@ ghost use Prim.Native.Nat.{_<_};
 ghost use lib.Dec.{eqb, ltb};
 ghost use Rattle.nodes.specs.Nodes.{Falls};
 ghost use Rattle.graph_sweeps.specs.Swept.{inside, tied};
-use nodes::wide;
+use climbs::wide;
 
 // One sweep finds the blocks at or below the base.
 pub fn inside<'a>(parents: &'a [u8; 256], count: usize, base: u8, used: &'a [bool; 256]) -> bool

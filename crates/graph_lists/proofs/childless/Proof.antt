@@ -11,7 +11,7 @@ use Rattle.graph_lists.proofs.childless.Statement.{statement}
 use Rattle.graph_lists.proofs.childless.Tie as tie
 use Rattle.graph_lists.proofs.childless.Reads as reads
 use Rattle.graph_lists.proofs.childless.Lts as lts
-use Rattle.nodes.proofs.wide.Reads as wide-reads
+use Rattle.climbs.proofs.wide.Reads as wide-reads
 
 abbrev Inv-loop : tie.InvT-loop
 Inv-loop used above order listed left₀ k₀ left k = (k ≤ listed) × (left ≡ struck (col above) (front k order) used)

@@ -15,7 +15,7 @@ use Rattle.graph_lists.proofs.once_each.Tie as tie
 use Rattle.graph_lists.proofs.once_each.Reads as reads
 use Rattle.graph_lists.proofs.once_each.Lts as lts
 use Rattle.graph_lists.proofs.none_left.Reads as none-left-reads
-use Rattle.nodes.proofs.wide.Reads as wide-reads
+use Rattle.climbs.proofs.wide.Reads as wide-reads
 
 abbrev Inv-loop : tie.InvT-loop
 Inv-loop places n marks left₀ k₀ left k =

@@ -4,7 +4,7 @@ use Rattle.graph_lists.proofs.rises.Statement.{statement}
 use Rattle.graph_lists.proofs.rises.Tie as tie
 use Rattle.graph_lists.proofs.rises.Reads as reads
 use Rattle.graph_lists.proofs.rises.Lts as lts
-use Rattle.nodes.proofs.wide.Reads as wide-reads
+use Rattle.climbs.proofs.wide.Reads as wide-reads
 
 returns : tie.Need-returns
 returns c = rw (eq-eqb _ _ (c .if1 .taken))

@@ -19,7 +19,7 @@ use Rattle.graph_sweeps.proofs.inside.Reads as reads
 use Rattle.graph_sweeps.proofs.inside.Lts as lts
 use Rattle.graph_sweeps.proofs.is_inside.Reads as is-inside-reads
 use Rattle.graph_sweeps.proofs.is_under.Reads as is-under-reads
-use Rattle.nodes.proofs.wide.Reads as wide-reads
+use Rattle.climbs.proofs.wide.Reads as wide-reads
 
 abbrev Inv-loop : tie.InvT-loop
 Inv-loop parents count base used top under₀ k₀ under k =

@@ -19,7 +19,7 @@ use Rattle.graph_sweeps.proofs.tied.Reads as reads
 use Rattle.graph_sweeps.proofs.tied.Lts as lts
 use Rattle.graph_sweeps.proofs.is_tied.Reads as is-tied-reads
 use Rattle.graph_sweeps.proofs.node_or.Reads as node-or-reads
-use Rattle.nodes.proofs.wide.Reads as wide-reads
+use Rattle.climbs.proofs.wide.Reads as wide-reads
 
 abbrev Inv-loop : tie.InvT-loop
 Inv-loop parents used rest above near₀ k₀ near k =

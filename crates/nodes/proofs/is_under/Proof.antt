@@ -9,7 +9,7 @@ use Rattle.nodes.proofs.is_under.Statement.{statement}
 use Rattle.nodes.proofs.is_under.Tie as tie
 use Rattle.nodes.proofs.is_under.Reads as reads
 use Rattle.nodes.proofs.is_under.Lts as lts
-use Rattle.nodes.proofs.reaches.Reads as reaches-reads
+use Rattle.climbs.proofs.reaches.Reads as reaches-reads
 
 -- src/lib.rt:190:9
 returns : tie.Need-returns

@@ -13,7 +13,7 @@ use Rattle.vote_insert.proofs.mark.Tie as tie
 use Rattle.vote_insert.proofs.mark.Reads as reads
 use Rattle.vote_insert.proofs.mark.Lts as lts
 use Rattle.bitfield.proofs.set_bit.Reads as set-bit-reads
-use Rattle.nodes.proofs.wide.Reads as wide-reads
+use Rattle.climbs.proofs.wide.Reads as wide-reads
 
 abbrev Inv-loop : tie.InvT-loop
 Inv-loop above rows₀ base block bit at₀ rows at = (at < 256) × (marked above base bit block rows₀ ≡ marked above base bit at rows)
