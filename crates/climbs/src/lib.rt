@@ -1,7 +1,6 @@
 // Climbs up the table, on lent columns. Places fit a byte, and a byte indexes every column.
 ghost use mathlib.Core.Path.{_≡_};
-ghost use Prim.Native.Nat.{ℕ, pred, _≤_, _<_};
-ghost use lib.ListN.{getD};
+ghost use Prim.Native.Nat.{_<_};
 ghost use Rattle.grandpa.specs.Tree.{below};
 ghost use Rattle.graph.specs.Search.{nearest};
 ghost use Rattle.graph.specs.Ghost.{towards};

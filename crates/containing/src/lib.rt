@@ -1,7 +1,6 @@
 // `find_containing_nodes` of vote_graph.rs, on lent columns.
 ghost use mathlib.Core.Path.{_≡_};
-ghost use Prim.Native.Nat.{ℕ, pred, _≤_};
-ghost use lib.ListN.{getD};
+ghost use Prim.Native.Nat.{_≤_};
 ghost use Rattle.loops.specs.Listing.{front};
 ghost use Rattle.climbs.specs.Places.{col, Falls};
 ghost use Rattle.nodes.specs.Nodes.{placed, found};

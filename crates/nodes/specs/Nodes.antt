@@ -1,7 +1,7 @@
 -- Vote-nodes in columns, and what is asked of their bits. Document 01, "Forms that must change": arrays with counts;
 -- conditions are an enum of the two questions, with their numbers beside.
 use mathlib.Core.Bool.{Bool, cond, _||_}
-use mathlib.Core.List.{List, [], _∷_}
+use mathlib.Core.List.{List, []}
 use Prim.Native.Nat.{ℕ, zero, suc}
 use lib.Dec.{leb, eqb}
 use lib.ListN.{length}

@@ -1,9 +1,7 @@
 // Vote-nodes on lent columns: lists of them, joined bits, and the questions that are asked of them. A node is the place of
 // its block.
 ghost use mathlib.Core.Path.{_≡_};
-ghost use mathlib.Core.List.{[]};
-ghost use Prim.Native.Nat.{ℕ, pred, _≤_, _<_};
-ghost use lib.ListN.{getD, length};
+ghost use Prim.Native.Nat.{_≤_, _<_};
 ghost use Rattle.loops.specs.Listing.{front, keep};
 ghost use Rattle.graph.specs.Graph.{join-of};
 ghost use Rattle.graph.specs.Ghost.{under};

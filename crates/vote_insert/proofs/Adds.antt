@@ -1,12 +1,11 @@
 -- A new node in columns, from what its parts give.
 use mathlib.Core.Bool.{true, false}
-use mathlib.Core.List.{List, [], _∷_, _++_, append-assoc}
+use mathlib.Core.List.{List, [], _∷_}
 use mathlib.Core.Path.{_≡_, refl, sym, ap, _∙_}
-use Prim.Native.Nat.{ℕ, _+_, _≤_, _<_}
+use Prim.Native.Nat.{ℕ, _≤_, _<_}
 use native.Mathlib.Omega.{arith}
-use lib.Dec.{eqb}
-use lib.ListN.{set, length, length-append}
-use Rattle.loops.specs.Listing.{times, keep, front}
+use lib.ListN.{set, length}
+use Rattle.loops.specs.Listing.{front}
 use Rattle.loops.proofs.Listings.{length-front}
 use Rattle.columns.specs.Lists.{padded}
 use Rattle.graph.specs.Search.{nearest}

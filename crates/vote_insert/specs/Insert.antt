@@ -1,6 +1,6 @@
 -- `insert` of vote_graph.rs on columns. proofs/ says that it is `insert` of the graph that they hold, and that it keeps the
 -- columns sound.
-use mathlib.Core.Bool.{Bool, true, false, cond}
+use mathlib.Core.Bool.{true, false, cond}
 use mathlib.Core.List.{List, [], _∷_}
 use mathlib.Core.Path.{_≡_}
 use Prim.Native.Nat.{ℕ, zero, suc, _≤_}

@@ -1,7 +1,7 @@
 // `find_merge_point` of vote_graph.rs, on lent columns, and the first node that answers a question with yes.
 ghost use mathlib.Core.Path.{_≡_};
 ghost use mathlib.Core.List.{[]};
-ghost use Prim.Native.Nat.{ℕ, _≤_};
+ghost use Prim.Native.Nat.{_≤_};
 ghost use Rattle.loops.specs.Listing.{front};
 ghost use Rattle.graph.specs.Ghost.{first-in, meets, merge};
 ghost use Rattle.nodes.specs.Nodes.{col, row, Falls, passes};

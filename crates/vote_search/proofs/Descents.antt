@@ -1,6 +1,6 @@
 -- The nodes that follow a block by the columns, and the turns of the search down.
 use mathlib.Core.Bool.{Bool, true, false}
-use mathlib.Core.List.{List, []}
+use mathlib.Core.List.{List}
 use mathlib.Core.Option.{none, some}
 use mathlib.Core.Path.{_≡_, sym, ap, subst, _∙_}
 use mathlib.Core.Logic.{_≢_}
@@ -9,17 +9,17 @@ use native.Mathlib.Omega.{arith}
 use lib.Dec.{T, eqb, eqb→eq}
 use lib.ListN.{length}
 use borrow.Author.Tests.{eq-eqb, ne-eqb}
-use Rattle.loops.specs.Listing.{times, keep, front}
+use Rattle.loops.specs.Listing.{keep, front}
 use Rattle.loops.proofs.Listings.{kept-in}
 use Rattle.grandpa.specs.Tree.{below}
-use Rattle.grandpa.proofs.Trees.{below-up, below-trans, below-le, below-step, child-below}
+use Rattle.grandpa.proofs.Trees.{below-up, below-trans, below-le, below-step}
 use Rattle.graph.specs.Search.{nearest}
 use Rattle.graph.specs.Graph.{Graph, tally, children}
-use Rattle.graph.specs.Ghost.{under, towards, first-in, meets, merge, settle, following, find-ghost}
+use Rattle.graph.specs.Ghost.{under, first-in, merge, settle, following, find-ghost}
 use Rattle.graph.proofs.Climbs.{nearest-says}
-use Rattle.graph.proofs.Followed.{under-is, is-under, towards-says}
+use Rattle.graph.proofs.Followed.{is-under}
 use Rattle.nodes.specs.declared.Places.{Places}
-use Rattle.nodes.specs.Nodes.{col, flag, Falls, placed, listed-under}
+use Rattle.nodes.specs.Nodes.{col, flag, placed, listed-under}
 use Rattle.nodes.specs.Columns.{Columns, Sound, view}
 use Rattle.nodes.proofs.Lists.{length-kept, length-keep, placed-front, placed-count}
 use Rattle.vote_search.specs.declared.Tally.{Tally}

@@ -2,7 +2,6 @@
 ghost use mathlib.Core.Path.{_≡_};
 ghost use mathlib.Core.List.{List};
 ghost use Prim.Native.Nat.{ℕ, _≤_};
-ghost use Rattle.loops.specs.Listing.{front};
 ghost use Rattle.graph.specs.Ghost.{find-ancestor, find-ghost};
 ghost use Rattle.nodes.specs.Nodes.{col, Falls, placed, passes};
 ghost use Rattle.nodes.specs.Columns.{view, as-found};

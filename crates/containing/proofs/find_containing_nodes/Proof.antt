@@ -1,14 +1,12 @@
 use borrow.Author.Needs.{needs}
 use mathlib.Core.Path.{_≡_, refl, sym, ap, subst, _∙_}
-use mathlib.Core.Bool.{Bool, true, false}
-use mathlib.Core.List.{List}
-use Prim.Native.Nat.{ℕ, _<_, _≤_, _-_, _+_}
+use mathlib.Core.Bool.{false}
+use Prim.Native.Nat.{ℕ, _<_, _≤_, _-_}
 use native.Mathlib.Omega.{arith}
-use lib.ListN.{getD, set, length, length-set}
+use lib.ListN.{getD, length, length-set}
 use borrow.Author.Tests.{not-true, not-false}
-use Rattle.grandpa.specs.Tree.{below}
 use Rattle.climbs.specs.Places.{col, Falls}
-use Rattle.containing.proofs.Search.{Marks, Way, way-start, way-off, way-met, way-up, way-bare, way-hit, upto, Between, between-start, between-same, between-more, between-end}
+use Rattle.containing.proofs.Search.{Way, way-start, way-off, way-met, way-up, way-bare, way-hit, upto, Between, between-start, between-same, between-more, between-end}
 use Rattle.containing.proofs.find_containing_nodes.Statement.{statement}
 use Rattle.containing.proofs.find_containing_nodes.Tie as tie
 use Rattle.containing.proofs.find_containing_nodes.Reads as reads

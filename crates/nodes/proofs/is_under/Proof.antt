@@ -1,6 +1,5 @@
-use mathlib.Core.Bool.{Bool, true, false, not, _&&_, and-true, and-false}
-use mathlib.Core.Path.{_≡_, refl, sym, ap, _∙_}
-use lib.Dec.{eqb}
+use mathlib.Core.Bool.{Bool, not, _&&_, and-true, and-false}
+use mathlib.Core.Path.{sym, ap, _∙_}
 use borrow.Author.Tests.{eq-eqb, ne-eqb}
 use Rattle.grandpa.specs.Tree.{below}
 use Rattle.nodes.specs.Nodes.{col}

@@ -1,11 +1,11 @@
 use borrow.Author.Needs.{needs}
 use mathlib.Core.Path.{_≡_, refl, sym, ap, _∙_}
 use mathlib.Core.List.{List}
-use Prim.Native.Nat.{ℕ, _<_, _≤_, _-_, _+_}
+use Prim.Native.Nat.{ℕ, _<_, _-_}
 use native.Mathlib.Omega.{arith}
 use lib.ListN.{getD, set}
 use Rattle.bitfield.specs.Bits.{put}
-use Rattle.nodes.specs.Nodes.{col, row}
+use Rattle.nodes.specs.Nodes.{row}
 use Rattle.vote_insert.specs.Insert.{marked}
 use Rattle.vote_insert.proofs.Marks.{marked-end, marked-next}
 use Rattle.vote_insert.proofs.mark.Statement.{statement}
