@@ -29,8 +29,10 @@ use Rattle.graph.proofs.Listed.{near-member, near-other, near-new}
 use Rattle.nodes.specs.Nodes.{col, flag, row, Falls, found}
 use Rattle.nodes.specs.Columns.{Columns, view, Sound}
 use Rattle.nodes.proofs.Tied.{found-is}
-use Rattle.vote_insert.specs.Insert.{set-all, without, added, marked, with-rows, inserted, Insertable}
-use Rattle.vote_insert.proofs.Lists.{or-true, front-padded}
+use Rattle.vote_insert.specs.Insert.{set-all, added, marked, with-rows, inserted, Insertable}
+use Rattle.nodes.proofs.Lists.{front-padded}
+use Rattle.vote_lists.specs.Placing.{without}
+use Rattle.vote_lists.proofs.Lists.{or-true}
 use Rattle.vote_insert.proofs.Marks.{length-marked, marked-bits}
 
 -- different places below n are at most n
