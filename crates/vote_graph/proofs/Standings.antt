@@ -91,6 +91,12 @@ module _ (g : VoteGraph) (t : BlockTable) (h : is-graph g t ≡ true) where
       go true q r = stands-in j k (ltb→lt j (t .count) (T-true q)) r
       go false q r = absurd (at-most-one r)
 
+-- ids are distinct
+pub apart-in : (g : VoteGraph) (t : BlockTable) (k : ℕ) → Standing g t k → (y : ℕ) → T (flag (g .used) y) → y ≢ k → col (t .ids) y ≢ col (t .ids) k
+apart-in g t k s y u n q =
+    let r = is-graph-means g t (s .shaped) in
+    n (r .table .distinct (col (t .ids) k) y k (record { inside = r .sound .nodes .tabled y u; named = q }) (record { inside = s .inside; named = refl }))
+
 -- on the words that the code lends
 module _ (g : VoteGraph) (t : BlockTable) (k : ℕ) (s : Standing g t k) (w : List (List ℕ)) (e : w ≡ words-of (g .rows)) where
   all-kept : Kept g t
@@ -99,19 +105,13 @@ module _ (g : VoteGraph) (t : BlockTable) (k : ℕ) (s : Standing g t k) (w : Li
   sound-lent : Sound (t .parents) (t .ids) (g .base) (t .count) (lent g w)
   sound-lent = subst (λ (v : List (List ℕ)). Sound (t .parents) (t .ids) (g .base) (t .count) (lent g v)) (sym e) (all-kept .sound)
 
-  -- ids are distinct
-  apart : (y : ℕ) → T (flag (g .used) y) → y ≢ k → col (t .ids) y ≢ col (t .ids) k
-  apart y u n q =
-      n (all-kept .table .distinct (col (t .ids) k) y k (record { inside = all-kept .sound .nodes .tabled y u; named = q })
-      (record { inside = s .inside; named = refl }))
-
   pub standing-insertable : Insertable (t .parents) (t .ids) k (lent g w)
-  standing-insertable = insertable (t .parents) (t .ids) (g .base) (t .count) k (s .in-base) (s .inside) (lent g w) sound-lent apart
+  standing-insertable = insertable (t .parents) (t .ids) (g .base) (t .count) k (s .in-base) (s .inside) (lent g w) sound-lent (apart-in g t k s)
 
   pub standing-rows : (bit : ℕ) (n : Columns) → n ≡ inserted (t .parents) (t .ids) (g .base) k bit (lent g w) → length (n .rows) ≡ 256
   standing-rows bit n q =
       ap (λ (c : Columns). length (c .rows)) q
-      ∙ sound-inserted (t .parents) (t .ids) (g .base) (t .count) k (s .in-base) (s .inside) (lent g w) sound-lent apart bit .rows-size
+      ∙ sound-inserted (t .parents) (t .ids) (g .base) (t .count) k (s .in-base) (s .inside) (lent g w) sound-lent (apart-in g t k s) bit .rows-size
 
   pub standing-stands : Stands (t .parents) (g .base) (lent g w) k
   standing-stands = record { ids = t .ids; count = t .count; sound = sound-lent; in-base = s .in-base }
