@@ -89,7 +89,8 @@ impl VoteGraph {
     pub fn base(self) -> u8
         ensures { λ r. ⌜ r ≡ self .base ⌝ }
     {
-        self.base
+        let base = self.base;
+        base
     }
 
     // Whether the table keeps its shape rules, and the graph its own on that table.

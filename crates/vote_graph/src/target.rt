@@ -2,7 +2,7 @@
 ghost use mathlib.Core.Path.{_≡_};
 ghost use Prim.Native.Nat.{_≤_};
 ghost use Rattle.nodes.specs.Nodes.{Falls};
-ghost use Rattle.vote_graph.specs.Target.{target, start};
+ghost use Rattle.vote_graph.specs.Target.{in-base, target, start};
 use block_table::Place;
 use nodes::Found;
 
@@ -26,10 +26,7 @@ pub fn of<'a>(
     let Place::At(place) = block_table::inner::find(ids, count, block) else {
         return Target::Refused(11);
     };
-    if !nodes::reaches(parents, base, place) {
-        return Target::Refused(13);
-    }
-    Target::At(place)
+    in_base(parents, base, place)
 }
 
 // The block at a place, or the base where none is named.
@@ -43,6 +40,13 @@ pub fn start(parents: &[u8; 256], count: usize, base: u8, from: Found) -> Target
     if count <= nodes::wide(place) {
         return Target::Refused(11);
     }
+    in_base(parents, base, place)
+}
+
+fn in_base(parents: &[u8; 256], base: u8, place: u8) -> Target
+    requires { ⌜ Falls (now parents) ⌝ }
+    ensures { λ r. ⌜ r ≡ in-base (now (parents .entry)) base place ⌝ }
+{
     if !nodes::reaches(parents, base, place) {
         return Target::Refused(13);
     }
