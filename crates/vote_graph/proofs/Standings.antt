@@ -28,6 +28,7 @@ use Rattle.vote_insert.specs.Insert.{inserted, Insertable}
 use Rattle.vote_insert.proofs.Keeps.{insertable, sound-inserted}
 use Rattle.vote_search.specs.declared.Tally.{Tally}
 use Rattle.vote_search.specs.Searches.{tallied, unlisted, Stands}
+use Rattle.vote_search.proofs.Ancestors.{tallied-is}
 use Rattle.vote_graph.specs.declared.VoteGraph.{VoteGraph}
 use Rattle.vote_graph.specs.declared.target.Target.{Target}
 use Rattle.vote_graph.specs.declared.target.Target.the-variants.{At, Refused}
@@ -144,3 +145,9 @@ module _ (g : VoteGraph) (t : BlockTable) (k : ℕ) (w : List (List ℕ)) (e : w
     pub ghost-is : (r : Found) → r ≡ as-found (steps.find-ghost (col (t .parents)) (view (lent g w)) (passes weights q) k) → r ≡ ghost-of g t weights q k
     unfolding ghost-of
     ghost-is r p = p ∙ ap (λ (v : List (List ℕ)). as-found (steps.find-ghost (col (t .parents)) (view (lent g v)) (passes weights q) k)) e
+
+-- the bits that `cumulative_vote` gives are the graph's
+pub tally-told : (g : VoteGraph) (t : BlockTable) (k : ℕ) → Standing g t k → tally-of g t k .bits ≡ tally (col (t .parents)) (view (columns g)) k
+unfolding tally-of
+tally-told g t k s =
+    tallied-is (t .parents) (t .ids) (g .base) (t .count) (columns g) (is-graph-means g t (s .shaped) .sound) k (s .in-base)
