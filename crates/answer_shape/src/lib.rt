@@ -13,10 +13,10 @@ fn is_stored(parents: &[u8; 256], count: usize, base: u8, block: Found) -> bool
 {
     match block {
         Found::At(place) => {
-            if count <= nodes::wide(place) {
+            if count <= climbs::wide(place) {
                 return false;
             }
-            nodes::reaches(parents, base, place)
+            climbs::reaches(parents, base, place)
         }
         Found::Nothing => true,
     }

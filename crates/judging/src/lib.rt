@@ -6,7 +6,7 @@ ghost use Rattle.nodes.specs.Nodes.{Falls};
 ghost use Rattle.judging.specs.Judge.{judge-first, judge};
 use blocks::Place;
 use context::Phase;
-use nodes::wide;
+use climbs::wide;
 use tracker::AddVoteResult;
 use tracker::Pair;
 use voter_info::Lookup;
@@ -57,7 +57,7 @@ pub fn judge_first<'a>(
     if heights[wide(block)] != pair.number {
         return Verdict::Nothing(ImportResult::Refused(12));
     }
-    if !nodes::reaches(parents, base, block) {
+    if !climbs::reaches(parents, base, block) {
         return Verdict::Nothing(ImportResult::Refused(13));
     }
     Verdict::First(info, block)

@@ -2,7 +2,7 @@
 // By rising entry is by rising voter.
 use context::Phase;
 use nodes::Places;
-use nodes::wide;
+use climbs::wide;
 
 // The votes of a phase; or the precommits that finalize the block at a place.
 pub enum Wanted {
@@ -28,7 +28,7 @@ fn finalizes<'a>(
     if times[at] != 1 {
         return true;
     }
-    nodes::reaches(parents, block, places[at])
+    climbs::reaches(parents, block, places[at])
 }
 
 fn wants<'a>(

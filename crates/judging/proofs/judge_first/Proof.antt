@@ -7,8 +7,8 @@ use Rattle.judging.proofs.judge_first.Tie as tie
 use Rattle.judging.proofs.judge_first.Reads as reads
 use Rattle.judging.proofs.judge_first.Lts as lts
 use Rattle.blocks.proofs.find.Reads as find-reads
-use Rattle.nodes.proofs.reaches.Reads as reaches-reads
-use Rattle.nodes.proofs.wide.Reads as wide-reads
+use Rattle.climbs.proofs.reaches.Reads as reaches-reads
+use Rattle.climbs.proofs.wide.Reads as wide-reads
 
 -- src/lib.rt:51:28
 find-requires : tie.Need-find-requires
