@@ -1,4 +1,7 @@
 // The answers of a round: `update` of round.rs and its two GHOSTs, on lent columns.
+ghost use mathlib.Core.Path.{_≡_};
+ghost use Prim.Native.Nat.{ℕ};
+ghost use Rattle.answers.specs.Update.{lent, scene, Grounded, In-base, start-of, phase-ghost, with-ghost, settled, update};
 use context::Phase;
 use grandpa::PossibleToPrecommit;
 use nodes::Condition;
@@ -22,6 +25,7 @@ pub struct Heard {
 }
 
 fn start_of(stored: Found, base: u8) -> u8
+    ensures { λ r. ⌜ r ≡ start-of stored base ⌝ }
 {
     match stored {
         Found::At(block) => block,
@@ -47,13 +51,31 @@ pub fn phase_ghost<'a>(
     heard: u64,
     stored: Found,
 ) -> Found
+    requires { ⌜ (Grounded (now parents) base (lent (now used) (now above) (now rows) (now order) listed (now heads) tips)) × In-base (now parents) base stored ⌝ }
+    ensures { λ r. ⌜ r ≡ phase-ghost (scene (now (parents .entry)) base (now (weights .entry)) threshold (lent (now (used .entry)) (now (above .entry)) (now (rows .entry)) (now (order .entry)) listed (now (heads .entry)) tips) equivocations) phase heard stored ⌝ }
 {
     if heard < threshold {
         return stored;
     }
     let start = start_of(stored, base);
-    let question = Question { phase, condition: Condition::AtLeast(threshold), equivocations };
-    vote_search::find_ghost(parents, used, above, rows, order, listed, heads, tips, weights, question, start)
+    let question = Question {
+        phase,
+        condition: Condition::AtLeast(threshold),
+        equivocations,
+    };
+    vote_search::find_ghost(
+        parents,
+        used,
+        above,
+        rows,
+        order,
+        listed,
+        heads,
+        tips,
+        weights,
+        question,
+        start,
+    )
 }
 
 // The stored answers, with the prevote-GHOST worked out again in a prevote import only.
@@ -74,15 +96,39 @@ pub fn with_ghost<'a>(
     heard: Heard,
     answers: Answers,
 ) -> Answers
+    requires { ⌜ (Grounded (now parents) base (lent (now used) (now above) (now rows) (now order) listed (now heads) tips)) × In-base (now parents) base (answers .prevote) ⌝ }
+    ensures { λ r. ⌜ r ≡ with-ghost (scene (now (parents .entry)) base (now (weights .entry)) threshold (lent (now (used .entry)) (now (above .entry)) (now (rows .entry)) (now (order .entry)) listed (now (heads .entry)) tips) equivocations) heard phase answers ⌝ }
 {
     match phase {
         Phase::Prevote => {
             let prevote = answers.prevote;
-            let found = phase_ghost(parents, used, above, rows, order, listed, heads, tips, weights, base, threshold, equivocations, Phase::Prevote, heard.prevote, prevote);
+            let found = phase_ghost(
+                parents,
+                used,
+                above,
+                rows,
+                order,
+                listed,
+                heads,
+                tips,
+                weights,
+                base,
+                threshold,
+                equivocations,
+                Phase::Prevote,
+                heard.prevote,
+                prevote,
+            );
             let precommit = answers.precommit;
             let finalized = answers.finalized;
             let estimate = answers.estimate;
-            Answers { prevote: found, precommit, finalized, estimate, completable: answers.completable }
+            Answers {
+                prevote: found,
+                precommit,
+                finalized,
+                estimate,
+                completable: answers.completable,
+            }
         }
         Phase::Precommit => answers,
     }
@@ -103,6 +149,8 @@ fn is_completable<'a>(
     g: u8,
     estimate: Found,
 ) -> bool
+    requires { ⌜ ((base : ℕ) × (Grounded (now parents) base (lent (now used) (now above) (now rows) (now order) listed (now heads) tips)) × In-base (now parents) base estimate) ⌝ }
+    ensures { λ r. ⌜ r ≡ settled (now (parents .entry)) (now (weights .entry)) (lent (now (used .entry)) (now (above .entry)) (now (rows .entry)) (now (order .entry)) listed (now (heads .entry)) tips) possible g estimate ⌝ }
 {
     let Found::At(block) = estimate else {
         return false;
@@ -110,7 +158,19 @@ fn is_completable<'a>(
     if block != g {
         return true;
     }
-    let Found::At(lowest) = vote_search::find_ghost(parents, used, above, rows, order, listed, heads, tips, weights, possible, block) else {
+    let Found::At(lowest) = vote_search::find_ghost(
+        parents,
+        used,
+        above,
+        rows,
+        order,
+        listed,
+        heads,
+        tips,
+        weights,
+        possible,
+        block,
+    ) else {
         return true;
     };
     lowest == g
@@ -134,6 +194,8 @@ pub fn update<'a>(
     heard: Heard,
     answers: Answers,
 ) -> Answers
+    requires { ⌜ (Grounded (now parents) base (lent (now used) (now above) (now rows) (now order) listed (now heads) tips)) × In-base (now parents) base (answers .prevote) ⌝ }
+    ensures { λ r. ⌜ r ≡ update (scene (now (parents .entry)) base (now (weights .entry)) threshold (lent (now (used .entry)) (now (above .entry)) (now (rows .entry)) (now (order .entry)) listed (now (heads .entry)) tips) equivocations) total heard answers ⌝ }
 {
     if heard.prevote < threshold {
         return answers;
@@ -153,13 +215,56 @@ pub fn update<'a>(
             completable: answers.completable,
         };
     }
-    let weighty = Question { phase: Phase::Precommit, condition: Condition::AtLeast(threshold), equivocations };
-    let finalized = vote_search::find_ancestor(parents, used, above, rows, heads, tips, weights, base, weighty, g);
+    let weighty = Question {
+        phase: Phase::Precommit,
+        condition: Condition::AtLeast(threshold),
+        equivocations,
+    };
+    let finalized = vote_search::find_ancestor(
+        parents,
+        used,
+        above,
+        rows,
+        heads,
+        tips,
+        weights,
+        base,
+        weighty,
+        g,
+    );
     let equivocated = context::weighing::weight(weights, equivocations, Phase::Precommit);
     let still = PossibleToPrecommit::new(total, threshold, heard.precommit, equivocated);
-    let possible = Question { phase: Phase::Precommit, condition: Condition::Possible(still), equivocations };
-    let estimate = vote_search::find_ancestor(parents, used, above, rows, heads, tips, weights, base, possible, g);
-    let completable = is_completable(parents, used, above, rows, order, listed, heads, tips, weights, possible, g, estimate);
+    let possible = Question {
+        phase: Phase::Precommit,
+        condition: Condition::Possible(still),
+        equivocations,
+    };
+    let estimate = vote_search::find_ancestor(
+        parents,
+        used,
+        above,
+        rows,
+        heads,
+        tips,
+        weights,
+        base,
+        possible,
+        g,
+    );
+    let completable = is_completable(
+        parents,
+        used,
+        above,
+        rows,
+        order,
+        listed,
+        heads,
+        tips,
+        weights,
+        possible,
+        g,
+        estimate,
+    );
     Answers {
         prevote,
         precommit,
