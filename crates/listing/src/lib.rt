@@ -1,16 +1,23 @@
-// Lists of recorded votes, as the entries of history have them: entry 2i is the first pair of index i, 2i + 1 its second.
-// By rising entry is by rising voter.
+// Lists of recorded votes, as entries of history: entry 2i is the first pair at index i, 2i + 1 its second. An index is a
+// voter's bit, so that by rising entry is by rising voter.
+ghost use mathlib.Core.Path.{_≡_};
+ghost use Prim.Native.Nat.{_*_, _≤_, _<_};
+ghost use Rattle.loops.specs.Listing.{keep};
+ghost use Rattle.context.specs.Votes.{offset};
+ghost use Rattle.nodes.specs.Nodes.{Falls, placed};
+ghost use Rattle.listing.specs.Entries.{counting, finalizes, suits, wants};
 use context::Phase;
 use nodes::Places;
 use nodes::wide;
 
 // The votes of a phase; or the precommits that finalize the block at a place.
 pub enum Wanted {
-    Phase(Phase),
+    Of(Phase),
     Finalizing(u8),
 }
 
 fn odd(phase: Phase) -> usize
+    ensures { λ r. ⌜ r ≡ offset phase ⌝ }
 {
     match phase {
         Phase::Prevote => 0,
@@ -18,33 +25,70 @@ fn odd(phase: Phase) -> usize
     }
 }
 
-// A single vote is wanted where it is at or below the block, both of an equivocator always.
-fn finalizes<'a>(times: &'a [u8; 128], places: &'a [u8; 128], parents: &'a [u8; 256], block: u8, at: usize) -> bool
+// A single precommit where it is at or below the block, both of an equivocator always.
+fn finalizes<'a>(
+    times: &'a [u8; 128],
+    places: &'a [u8; 128],
+    parents: &'a [u8; 256],
+    block: u8,
+    at: usize,
+) -> bool
+    requires { ⌜ (Falls (now parents)) × (at < 128) ⌝ }
+    ensures { λ r. ⌜ r ≡ finalizes (now (times .entry)) (now (places .entry)) (now (parents .entry)) block at ⌝ }
 {
+    if at % 2 == 0 {
+        return false;
+    }
     if times[at] != 1 {
         return true;
     }
     nodes::reaches(parents, block, places[at])
 }
 
-fn wants<'a>(times: &'a [u8; 128], places: &'a [u8; 128], parents: &'a [u8; 256], wanted: Wanted, entry: usize) -> bool
+fn suits<'a>(
+    times: &'a [u8; 128],
+    places: &'a [u8; 128],
+    parents: &'a [u8; 256],
+    wanted: Wanted,
+    at: usize,
+) -> bool
+    requires { ⌜ (Falls (now parents)) × (at < 128) ⌝ }
+    ensures { λ r. ⌜ r ≡ suits (now (times .entry)) (now (places .entry)) (now (parents .entry)) wanted at ⌝ }
+{
+    match wanted {
+        Wanted::Of(phase) => at % 2 == odd(phase),
+        Wanted::Finalizing(block) => finalizes(times, places, parents, block, at),
+    }
+}
+
+// Whether an entry is recorded and suits.
+fn wants<'a>(
+    times: &'a [u8; 128],
+    places: &'a [u8; 128],
+    parents: &'a [u8; 256],
+    wanted: Wanted,
+    entry: usize,
+) -> bool
+    requires { ⌜ (Falls (now parents)) × (entry < 256) ⌝ }
+    ensures { λ r. ⌜ r ≡ wants (now (times .entry)) (now (places .entry)) (now (parents .entry)) wanted entry ⌝ }
 {
     let at = entry / 2;
     if wide(times[at]) <= entry % 2 {
         return false;
     }
-    match wanted {
-        Wanted::Phase(phase) => at % 2 == odd(phase),
-        Wanted::Finalizing(block) => {
-            if at % 2 == 0 {
-                return false;
-            }
-            finalizes(times, places, parents, block, at)
-        }
-    }
+    suits(times, places, parents, wanted, at)
 }
 
-pub fn entries_of<'a>(times: &'a [u8; 128], places: &'a [u8; 128], parents: &'a [u8; 256], size: usize, wanted: Wanted) -> Places
+// The wanted entries of the first `size` voters, by rising voter.
+pub fn entries_of<'a>(
+    times: &'a [u8; 128],
+    places: &'a [u8; 128],
+    parents: &'a [u8; 256],
+    size: usize,
+    wanted: Wanted,
+) -> Places
+    requires { ⌜ (Falls (now parents)) × (size ≤ 64) ⌝ }
+    ensures { λ r. ⌜ r ≡ placed (keep (wants (now (times .entry)) (now (places .entry)) (now (parents .entry)) wanted) (counting (4 * size))) ⌝ }
 {
     let mut entries = [0u8; 256];
     let mut n = 0;
@@ -55,5 +99,8 @@ pub fn entries_of<'a>(times: &'a [u8; 128], places: &'a [u8; 128], parents: &'a 
         entries[n] = e as u8;
         n = n + 1;
     }
-    Places { places: entries, count: n }
+    Places {
+        places: entries,
+        count: n,
+    }
 }
