@@ -21,8 +21,7 @@ pub struct Heard {
     pub precommit: u64,
 }
 
-fn start_of(stored: Found, base: u8) -> u8
-{
+fn start_of(stored: Found, base: u8) -> u8 {
     match stored {
         Found::At(block) => block,
         Found::Nothing => base,
@@ -46,14 +45,29 @@ pub fn phase_ghost<'a>(
     phase: Phase,
     heard: u64,
     stored: Found,
-) -> Found
-{
+) -> Found {
     if heard < threshold {
         return stored;
     }
     let start = start_of(stored, base);
-    let question = Question { phase, condition: Condition::AtLeast(threshold), equivocations };
-    vote_search::find_ghost(parents, used, above, rows, order, listed, heads, tips, weights, question, start)
+    let question = Question {
+        phase,
+        condition: Condition::AtLeast(threshold),
+        equivocations,
+    };
+    vote_search::find_ghost(
+        parents,
+        used,
+        above,
+        rows,
+        order,
+        listed,
+        heads,
+        tips,
+        weights,
+        question,
+        start,
+    )
 }
 
 // The stored answers, with the prevote-GHOST worked out again in a prevote import only.
@@ -73,16 +87,37 @@ pub fn with_ghost<'a>(
     phase: Phase,
     heard: Heard,
     answers: Answers,
-) -> Answers
-{
+) -> Answers {
     match phase {
         Phase::Prevote => {
             let prevote = answers.prevote;
-            let found = phase_ghost(parents, used, above, rows, order, listed, heads, tips, weights, base, threshold, equivocations, Phase::Prevote, heard.prevote, prevote);
+            let found = phase_ghost(
+                parents,
+                used,
+                above,
+                rows,
+                order,
+                listed,
+                heads,
+                tips,
+                weights,
+                base,
+                threshold,
+                equivocations,
+                Phase::Prevote,
+                heard.prevote,
+                prevote,
+            );
             let precommit = answers.precommit;
             let finalized = answers.finalized;
             let estimate = answers.estimate;
-            Answers { prevote: found, precommit, finalized, estimate, completable: answers.completable }
+            Answers {
+                prevote: found,
+                precommit,
+                finalized,
+                estimate,
+                completable: answers.completable,
+            }
         }
         Phase::Precommit => answers,
     }
@@ -102,15 +137,26 @@ fn is_completable<'a>(
     possible: Question,
     g: u8,
     estimate: Found,
-) -> bool
-{
+) -> bool {
     let Found::At(block) = estimate else {
         return false;
     };
     if block != g {
         return true;
     }
-    let Found::At(lowest) = vote_search::find_ghost(parents, used, above, rows, order, listed, heads, tips, weights, possible, block) else {
+    let Found::At(lowest) = vote_search::find_ghost(
+        parents,
+        used,
+        above,
+        rows,
+        order,
+        listed,
+        heads,
+        tips,
+        weights,
+        possible,
+        block,
+    ) else {
         return true;
     };
     lowest == g
@@ -133,8 +179,7 @@ pub fn update<'a>(
     equivocations: [u64; 2],
     heard: Heard,
     answers: Answers,
-) -> Answers
-{
+) -> Answers {
     if heard.prevote < threshold {
         return answers;
     }
@@ -153,13 +198,56 @@ pub fn update<'a>(
             completable: answers.completable,
         };
     }
-    let weighty = Question { phase: Phase::Precommit, condition: Condition::AtLeast(threshold), equivocations };
-    let finalized = vote_search::find_ancestor(parents, used, above, rows, heads, tips, weights, base, weighty, g);
+    let weighty = Question {
+        phase: Phase::Precommit,
+        condition: Condition::AtLeast(threshold),
+        equivocations,
+    };
+    let finalized = vote_search::find_ancestor(
+        parents,
+        used,
+        above,
+        rows,
+        heads,
+        tips,
+        weights,
+        base,
+        weighty,
+        g,
+    );
     let equivocated = context::weighing::weight(weights, equivocations, Phase::Precommit);
     let still = PossibleToPrecommit::new(total, threshold, heard.precommit, equivocated);
-    let possible = Question { phase: Phase::Precommit, condition: Condition::Possible(still), equivocations };
-    let estimate = vote_search::find_ancestor(parents, used, above, rows, heads, tips, weights, base, possible, g);
-    let completable = is_completable(parents, used, above, rows, order, listed, heads, tips, weights, possible, g, estimate);
+    let possible = Question {
+        phase: Phase::Precommit,
+        condition: Condition::Possible(still),
+        equivocations,
+    };
+    let estimate = vote_search::find_ancestor(
+        parents,
+        used,
+        above,
+        rows,
+        heads,
+        tips,
+        weights,
+        base,
+        possible,
+        g,
+    );
+    let completable = is_completable(
+        parents,
+        used,
+        above,
+        rows,
+        order,
+        listed,
+        heads,
+        tips,
+        weights,
+        possible,
+        g,
+        estimate,
+    );
     Answers {
         prevote,
         precommit,

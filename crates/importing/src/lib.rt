@@ -59,8 +59,7 @@ pub fn judge_first<'a>(
     base: u8,
     info: VoterInfo,
     pair: Pair,
-) -> Verdict
-{
+) -> Verdict {
     let Place::At(block) = blocks::find(ids, blocks, pair.target) else {
         return Verdict::Nothing(ImportResult::Refused(11));
     };
@@ -73,8 +72,7 @@ pub fn judge_first<'a>(
     Verdict::First(info, block)
 }
 
-fn index(place: usize, phase: Phase) -> usize
-{
+fn index(place: usize, phase: Phase) -> usize {
     match phase {
         Phase::Prevote => 2 * place,
         Phase::Precommit => 2 * place + 1,
@@ -100,13 +98,22 @@ pub fn judge<'a>(
     phase: Phase,
     signer: u32,
     pair: Pair,
-) -> Verdict
-{
+) -> Verdict {
     let Lookup::Voter(info) = voter_set::look_up(voters, weights, size, signer) else {
         return Verdict::Nothing(ImportResult::Outside);
     };
     let at = index(info.position, phase);
-    let recorded = tracker::recorded(times, places, signatures, targets, numbers, seconds, ids, heights, at);
+    let recorded = tracker::recorded(
+        times,
+        places,
+        signatures,
+        targets,
+        numbers,
+        seconds,
+        ids,
+        heights,
+        at,
+    );
     match tracker::add_vote(recorded, pair) {
         AddVoteResult::Single => judge_first(ids, heights, parents, blocks, base, info, pair),
         AddVoteResult::Duplicated => Verdict::Nothing(ImportResult::Duplicated),
@@ -115,11 +122,16 @@ pub fn judge<'a>(
     }
 }
 
-fn with_heard(heard: Heard, phase: Phase, weight: u64) -> Heard
-{
+fn with_heard(heard: Heard, phase: Phase, weight: u64) -> Heard {
     match phase {
-        Phase::Prevote => Heard { prevote: heard.prevote + weight, precommit: heard.precommit },
-        Phase::Precommit => Heard { prevote: heard.prevote, precommit: heard.precommit + weight },
+        Phase::Prevote => Heard {
+            prevote: heard.prevote + weight,
+            precommit: heard.precommit,
+        },
+        Phase::Precommit => Heard {
+            prevote: heard.prevote,
+            precommit: heard.precommit + weight,
+        },
     }
 }
 
@@ -137,16 +149,54 @@ fn updated<'a>(
     threshold: u64,
     phase: Phase,
     standing: Standing,
-) -> Standing
-{
+) -> Standing {
     let listed = standing.listed;
     let tips = standing.tips;
     let equivocations = standing.equivocations;
     let heard = standing.heard;
     let stored = standing.answers;
-    let renewed = answers::with_ghost(parents, used, above, rows, order, listed, heads, tips, weights, base, threshold, equivocations, phase, heard, stored);
-    let answers = answers::update(parents, used, above, rows, order, listed, heads, tips, weights, base, total, threshold, equivocations, heard, renewed);
-    Standing { listed, tips, count: standing.count, equivocations, heard, answers }
+    let renewed = answers::with_ghost(
+        parents,
+        used,
+        above,
+        rows,
+        order,
+        listed,
+        heads,
+        tips,
+        weights,
+        base,
+        threshold,
+        equivocations,
+        phase,
+        heard,
+        stored,
+    );
+    let answers = answers::update(
+        parents,
+        used,
+        above,
+        rows,
+        order,
+        listed,
+        heads,
+        tips,
+        weights,
+        base,
+        total,
+        threshold,
+        equivocations,
+        heard,
+        renewed,
+    );
+    Standing {
+        listed,
+        tips,
+        count: standing.count,
+        equivocations,
+        heard,
+        answers,
+    }
 }
 
 pub fn import(
@@ -177,9 +227,26 @@ pub fn import(
     phase: Phase,
     signer: u32,
     pair: Pair,
-) -> Step
-{
-    let verdict = judge(voters, weights, size, ids, heights, parents, blocks, base, times, places, signatures, targets, numbers, seconds, phase, signer, pair);
+) -> Step {
+    let verdict = judge(
+        voters,
+        weights,
+        size,
+        ids,
+        heights,
+        parents,
+        blocks,
+        base,
+        times,
+        places,
+        signatures,
+        targets,
+        numbers,
+        seconds,
+        phase,
+        signer,
+        pair,
+    );
     let count = standing.count;
     let equivocations = standing.equivocations;
     let heard = standing.heard;
@@ -192,12 +259,48 @@ pub fn import(
             places[at] = block;
             signatures[at] = pair.signature;
             entries[count] = (2 * at) as u8;
-            let counts = vote_insert::insert(parents, ids, used, above, rows, order, heads, standing.listed, standing.tips, base, block, at);
+            let counts = vote_insert::insert(
+                parents,
+                ids,
+                used,
+                above,
+                rows,
+                order,
+                heads,
+                standing.listed,
+                standing.tips,
+                base,
+                block,
+                at,
+            );
             let weight = info.weight;
             let more = with_heard(heard, phase, weight.get());
-            let next = Standing { listed: counts.listed, tips: counts.tips, count: count + 1, equivocations, heard: more, answers: stored };
-            let done = updated(parents, used, above, rows, order, heads, weights, base, total, threshold, phase, next);
-            Step { answer: ImportResult::Counted, standing: done }
+            let next = Standing {
+                listed: counts.listed,
+                tips: counts.tips,
+                count: count + 1,
+                equivocations,
+                heard: more,
+                answers: stored,
+            };
+            let done = updated(
+                parents,
+                used,
+                above,
+                rows,
+                order,
+                heads,
+                weights,
+                base,
+                total,
+                threshold,
+                phase,
+                next,
+            );
+            Step {
+                answer: ImportResult::Counted,
+                standing: done,
+            }
         }
         Verdict::Second(info, first) => {
             let at = index(info.position, phase);
@@ -207,10 +310,38 @@ pub fn import(
             seconds[at] = pair.signature;
             entries[count] = (2 * at + 1) as u8;
             let more = bitfield::set_bit(equivocations, at);
-            let next = Standing { listed: standing.listed, tips: standing.tips, count: count + 1, equivocations: more, heard, answers: stored };
-            let done = updated(parents, used, above, rows, order, heads, weights, base, total, threshold, phase, next);
-            let told = Equivocation { number: round, identity: signer, first, second: pair };
-            Step { answer: ImportResult::Equivocated(told), standing: done }
+            let next = Standing {
+                listed: standing.listed,
+                tips: standing.tips,
+                count: count + 1,
+                equivocations: more,
+                heard,
+                answers: stored,
+            };
+            let done = updated(
+                parents,
+                used,
+                above,
+                rows,
+                order,
+                heads,
+                weights,
+                base,
+                total,
+                threshold,
+                phase,
+                next,
+            );
+            let told = Equivocation {
+                number: round,
+                identity: signer,
+                first,
+                second: pair,
+            };
+            Step {
+                answer: ImportResult::Equivocated(told),
+                standing: done,
+            }
         }
     }
 }

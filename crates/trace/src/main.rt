@@ -1,7 +1,7 @@
 use answers::Answers;
 use answers::Heard;
-use blocks::Place;
 use blocks::Answer;
+use blocks::Place;
 use context::Phase;
 use importing::ImportResult;
 use importing::Standing;
@@ -11,11 +11,14 @@ use listing::Wanted;
 use nodes::Found;
 use tracker::Pair;
 use tracker::VoteMultiplicity;
-use voter_set::VoterSet;
 use voter_set::Nth;
+use voter_set::VoterSet;
 
 fn u32_at(s: &[u8], at: usize) -> u32 {
-    (s[at] as u32) + 256 * (s[at + 1] as u32) + 65536 * (s[at + 2] as u32) + 16777216 * (s[at + 3] as u32)
+    (s[at] as u32)
+        + 256 * (s[at + 1] as u32)
+        + 65536 * (s[at + 2] as u32)
+        + 16777216 * (s[at + 3] as u32)
 }
 
 fn u64_at(s: &[u8], at: usize) -> u64 {
@@ -78,8 +81,14 @@ fn put_block(out: &mut [u8], at: usize, name: &[u8], some: bool, id: u32, number
     put(out, e, b"\n")
 }
 
-
-fn put_found(out: &mut [u8], at: usize, name: &[u8], found: Found, ids: &[u32; 256], numbers: &[u32; 256]) -> usize {
+fn put_found(
+    out: &mut [u8],
+    at: usize,
+    name: &[u8],
+    found: Found,
+    ids: &[u32; 256],
+    numbers: &[u32; 256],
+) -> usize {
     match found {
         Found::At(b) => put_block(out, at, name, true, ids[b as usize], numbers[b as usize]),
         Found::Nothing => put_block(out, at, name, false, 0, 0),
@@ -94,7 +103,13 @@ fn put_pair(out: &mut [u8], at: usize, p: Pair) -> usize {
     put_num(out, d, p.signature)
 }
 
-fn put_entry(out: &mut [u8], at: usize, voters: &[u32; 64], m: VoteMultiplicity, e: usize) -> usize {
+fn put_entry(
+    out: &mut [u8],
+    at: usize,
+    voters: &[u32; 64],
+    m: VoteMultiplicity,
+    e: usize,
+) -> usize {
     let mut o = at;
     if e / 2 % 2 == 0 {
         o = put(out, o, b"Pv ");
@@ -104,16 +119,34 @@ fn put_entry(out: &mut [u8], at: usize, voters: &[u32; 64], m: VoteMultiplicity,
     o = put_num(out, o, voters[e / 4] as u64);
     o = put(out, o, b" ");
     match m {
-        VoteMultiplicity::Silent => { o = put(out, o, b"none"); }
-        VoteMultiplicity::Single(p) => { o = put_pair(out, o, p); }
+        VoteMultiplicity::Silent => {
+            o = put(out, o, b"none");
+        }
+        VoteMultiplicity::Single(p) => {
+            o = put_pair(out, o, p);
+        }
         VoteMultiplicity::Equivocated(p, q) => {
-            if e % 2 == 0 { o = put_pair(out, o, p); } else { o = put_pair(out, o, q); }
+            if e % 2 == 0 {
+                o = put_pair(out, o, p);
+            } else {
+                o = put_pair(out, o, q);
+            }
         }
     }
     put(out, o, b"\n")
 }
 
-fn put_answers(out: &mut [u8], at: usize, round: u64, total: u64, threshold: u64, root: [u64; 2], standing: Standing, ids: &[u32; 256], numbers: &[u32; 256]) -> usize {
+fn put_answers(
+    out: &mut [u8],
+    at: usize,
+    round: u64,
+    total: u64,
+    threshold: u64,
+    root: [u64; 2],
+    standing: Standing,
+    ids: &[u32; 256],
+    numbers: &[u32; 256],
+) -> usize {
     let heard = standing.heard;
     let answers = standing.answers;
     let mut o = put(out, at, b"round ");
@@ -125,7 +158,11 @@ fn put_answers(out: &mut [u8], at: usize, round: u64, total: u64, threshold: u64
     o = put(out, o, b" need ");
     o = put_num(out, o, threshold);
     o = put(out, o, b" voters ");
-    o = put_num(out, o, context::weighing::heard(root, Phase::Prevote) as u64);
+    o = put_num(
+        out,
+        o,
+        context::weighing::heard(root, Phase::Prevote) as u64,
+    );
     o = put(out, o, b"\nprecommit ");
     o = put_num(out, o, heard.precommit);
     o = put(out, o, b" of ");
@@ -133,7 +170,11 @@ fn put_answers(out: &mut [u8], at: usize, round: u64, total: u64, threshold: u64
     o = put(out, o, b" need ");
     o = put_num(out, o, threshold);
     o = put(out, o, b" voters ");
-    o = put_num(out, o, context::weighing::heard(root, Phase::Precommit) as u64);
+    o = put_num(
+        out,
+        o,
+        context::weighing::heard(root, Phase::Precommit) as u64,
+    );
     o = put(out, o, b"\n");
     o = put_found(out, o, b"ghost", answers.prevote, ids, numbers);
     o = put_found(out, o, b"estimate", answers.estimate, ids, numbers);
@@ -146,7 +187,11 @@ fn put_answers(out: &mut [u8], at: usize, round: u64, total: u64, threshold: u64
 }
 
 fn put_index(out: &mut [u8], at: usize, set: bool, n: u64) -> usize {
-    if set { put_num(out, at, n) } else { put(out, at, b"none") }
+    if set {
+        put_num(out, at, n)
+    } else {
+        put(out, at, b"none")
+    }
 }
 
 fn refused_from(out: &mut [u8], at: usize, n: u64, k: u64) -> usize {
@@ -166,7 +211,13 @@ fn replay(s: &[u8], out: &mut [u8]) -> usize {
     let mut vws = [0u64; 256];
     let mut vn = 0;
     let mut turn = 0u8;
-    let mut set = VoterSet { ids: [0; 64], weights: [0; 64], count: 0, threshold: 0, total: 0 };
+    let mut set = VoterSet {
+        ids: [0; 64],
+        weights: [0; 64],
+        count: 0,
+        threshold: 0,
+        total: 0,
+    };
     let mut ids = [0u32; 256];
     let mut numbers = [0u32; 256];
     let mut parents = [0u8; 256];
@@ -189,7 +240,23 @@ fn replay(s: &[u8], out: &mut [u8]) -> usize {
     let mut pvidx = 0u64;
     let mut pcset = false;
     let mut pcidx = 0u64;
-    let mut standing = Standing { listed: 0, tips: 0, count: 0, equivocations: [0; 2], heard: Heard { prevote: 0, precommit: 0 }, answers: Answers { prevote: Found::Nothing, precommit: Found::Nothing, finalized: Found::Nothing, estimate: Found::Nothing, completable: false } };
+    let mut standing = Standing {
+        listed: 0,
+        tips: 0,
+        count: 0,
+        equivocations: [0; 2],
+        heard: Heard {
+            prevote: 0,
+            precommit: 0,
+        },
+        answers: Answers {
+            prevote: Found::Nothing,
+            precommit: Found::Nothing,
+            finalized: Found::Nothing,
+            estimate: Found::Nothing,
+            completable: false,
+        },
+    };
     loop {
         let left = s.len() - at;
         if left < 2 {
@@ -242,7 +309,14 @@ fn replay(s: &[u8], out: &mut [u8]) -> usize {
             if turn == 0 {
                 return refused_from(out, o, 18, k);
             }
-            let a = blocks::add(&mut ids, &mut numbers, &mut parents, blocks, u32_at(s, p), u32_at(s, p + 4));
+            let a = blocks::add(
+                &mut ids,
+                &mut numbers,
+                &mut parents,
+                blocks,
+                u32_at(s, p),
+                u32_at(s, p + 4),
+            );
             match a {
                 Answer::Refused(n) => {
                     return refused_from(out, o, n as u64, k);
@@ -280,7 +354,9 @@ fn replay(s: &[u8], out: &mut [u8]) -> usize {
             o = put_num(out, o, set.count as u64);
             o = put(out, o, b" primary ");
             match set.nth_mod(round as usize) {
-                Nth::Place(id, _) => { o = put_num(out, o, id as u64); }
+                Nth::Place(id, _) => {
+                    o = put_num(out, o, id as u64);
+                }
                 Nth::Beyond => {}
             }
             o = put(out, o, b"\n");
@@ -290,26 +366,78 @@ fn replay(s: &[u8], out: &mut [u8]) -> usize {
             return refused_from(out, o, 18, k);
         }
         let signer = u32_at(s, p);
-        let pair = Pair { target: u32_at(s, p + 4), number: u32_at(s, p + 8), signature: u64_at(s, p + 12) };
-        let phase = if mark == 0x6350 { Phase::Precommit } else { Phase::Prevote };
+        let pair = Pair {
+            target: u32_at(s, p + 4),
+            number: u32_at(s, p + 8),
+            signature: u64_at(s, p + 12),
+        };
+        let phase = if mark == 0x6350 {
+            Phase::Precommit
+        } else {
+            Phase::Prevote
+        };
         let before = standing.count;
-        let step = importing::import(&set.ids, &set.weights, set.count, set.total, set.threshold, round, &ids, &numbers, &parents, blocks, base, &mut used, &mut above, &mut rows, &mut order, &mut heads, &mut times, &mut places, &mut signatures, &mut targets, &mut numbers2, &mut seconds, &mut entries, standing, phase, signer, pair);
+        let step = importing::import(
+            &set.ids,
+            &set.weights,
+            set.count,
+            set.total,
+            set.threshold,
+            round,
+            &ids,
+            &numbers,
+            &parents,
+            blocks,
+            base,
+            &mut used,
+            &mut above,
+            &mut rows,
+            &mut order,
+            &mut heads,
+            &mut times,
+            &mut places,
+            &mut signatures,
+            &mut targets,
+            &mut numbers2,
+            &mut seconds,
+            &mut entries,
+            standing,
+            phase,
+            signer,
+            pair,
+        );
         standing = step.standing;
         let mut valid = true;
         let mut duplicated = false;
         let mut told = false;
         votes += 1;
         match step.answer {
-            ImportResult::Refused(n) => { return refused_from(out, o, n as u64, k); }
-            ImportResult::Outside => { valid = false; }
-            ImportResult::Duplicated => { duplicated = true; }
-            ImportResult::Equivocated(_) => { told = true; }
+            ImportResult::Refused(n) => {
+                return refused_from(out, o, n as u64, k);
+            }
+            ImportResult::Outside => {
+                valid = false;
+            }
+            ImportResult::Duplicated => {
+                duplicated = true;
+            }
+            ImportResult::Equivocated(_) => {
+                told = true;
+            }
             _ => {}
         }
         o = put(out, o, b"vote ");
         o = put_num(out, o, votes);
-        if valid { o = put(out, o, b" valid yes"); } else { o = put(out, o, b" valid no"); }
-        if duplicated { o = put(out, o, b" duplicated yes\n"); } else { o = put(out, o, b" duplicated no\n"); }
+        if valid {
+            o = put(out, o, b" valid yes");
+        } else {
+            o = put(out, o, b" valid no");
+        }
+        if duplicated {
+            o = put(out, o, b" duplicated yes\n");
+        } else {
+            o = put(out, o, b" duplicated no\n");
+        }
         o = put(out, o, b"equivocation ");
         match step.answer {
             ImportResult::Equivocated(e) => {
@@ -322,27 +450,79 @@ fn replay(s: &[u8], out: &mut [u8]) -> usize {
                 o = put_pair(out, o, e.second);
                 o = put(out, o, b"\n");
             }
-            _ => { o = put(out, o, b"none\n"); }
+            _ => {
+                o = put(out, o, b"none\n");
+            }
         }
         if before < standing.count && set.ids[0] == signer {
-            if mark == 0x6350 { pcset = true; pcidx = standing.count as u64; } else { pvset = true; pvidx = standing.count as u64; }
+            if mark == 0x6350 {
+                pcset = true;
+                pcidx = standing.count as u64;
+            } else {
+                pvset = true;
+                pvidx = standing.count as u64;
+            }
         }
-        o = put_answers(out, o, round, set.total, set.threshold, rows[base as usize], standing, &ids, &numbers);
+        o = put_answers(
+            out,
+            o,
+            round,
+            set.total,
+            set.threshold,
+            rows[base as usize],
+            standing,
+            &ids,
+            &numbers,
+        );
         let a = standing.answers;
-        let g = answers::phase_ghost(&parents, &used, &above, &rows, &order, standing.listed, &heads, standing.tips, &set.weights, base, set.threshold, standing.equivocations, Phase::Precommit, standing.heard.precommit, a.precommit);
+        let g = answers::phase_ghost(
+            &parents,
+            &used,
+            &above,
+            &rows,
+            &order,
+            standing.listed,
+            &heads,
+            standing.tips,
+            &set.weights,
+            base,
+            set.threshold,
+            standing.equivocations,
+            Phase::Precommit,
+            standing.heard.precommit,
+            a.precommit,
+        );
         standing.answers.precommit = g;
         o = put_found(out, o, b"precommit_ghost", g, &ids, &numbers);
         match a.finalized {
-            Found::Nothing => { o = put(out, o, b"finalizing none\n"); }
+            Found::Nothing => {
+                o = put(out, o, b"finalizing none\n");
+            }
             Found::At(f) => {
-                let list = listing::entries_of(&times, &places, &parents, set.count, Wanted::Finalizing(f));
+                let list = listing::entries_of(
+                    &times,
+                    &places,
+                    &parents,
+                    set.count,
+                    Wanted::Finalizing(f),
+                );
                 o = put(out, o, b"finalizing ");
                 o = put_num(out, o, list.count as u64);
                 o = put(out, o, b"\n");
                 let mut i = 0;
                 while i < list.count {
                     let e = list.places[i] as usize;
-                    let m = tracker::recorded(&times, &places, &signatures, &targets, &numbers2, &seconds, &ids, &numbers, e / 2);
+                    let m = tracker::recorded(
+                        &times,
+                        &places,
+                        &signatures,
+                        &targets,
+                        &numbers2,
+                        &seconds,
+                        &ids,
+                        &numbers,
+                        e / 2,
+                    );
                     o = put_entry(out, o, &set.ids, m, e);
                     i += 1;
                 }
@@ -365,12 +545,32 @@ fn replay(s: &[u8], out: &mut [u8]) -> usize {
     let mut i = 0;
     while i < standing.count {
         let e = entries[i] as usize;
-        let m = tracker::recorded(&times, &places, &signatures, &targets, &numbers2, &seconds, &ids, &numbers, e / 2);
+        let m = tracker::recorded(
+            &times,
+            &places,
+            &signatures,
+            &targets,
+            &numbers2,
+            &seconds,
+            &ids,
+            &numbers,
+            e / 2,
+        );
         o = put(out, o, b"seen ");
         o = put_entry(out, o, &set.ids, m, e);
         i += 1;
     }
-    o = put_answers(out, o, round, set.total, set.threshold, rows[base as usize], standing, &ids, &numbers);
+    o = put_answers(
+        out,
+        o,
+        round,
+        set.total,
+        set.threshold,
+        rows[base as usize],
+        standing,
+        &ids,
+        &numbers,
+    );
     o = put(out, o, b"tail ");
     o = put_num(out, o, tail);
     put(out, o, b"\n")
