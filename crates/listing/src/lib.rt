@@ -5,10 +5,15 @@ ghost use Prim.Native.Nat.{_*_, _≤_, _<_};
 ghost use Rattle.loops.specs.Listing.{keep};
 ghost use Rattle.context.specs.Votes.{offset};
 ghost use Rattle.nodes.specs.Nodes.{Falls, placed};
+ghost use mathlib.Core.Bool.{Bool};
+ghost use Rattle.loops.specs.Listing.{front};
 ghost use Rattle.listing.specs.Entries.{counting, finalizes, suits, wants};
+ghost use Rattle.listing.specs.Written.{phase-of, chosen, pair-of, record-of, Lent, written};
 use context::Phase;
 use nodes::Places;
 use nodes::wide;
+use tracker::Pair;
+use tracker::VoteMultiplicity;
 
 // The votes of a phase; or the precommits that finalize the block at a place.
 pub enum Wanted {
@@ -103,4 +108,110 @@ pub fn entries_of<'a>(
         places: entries,
         count: n,
     }
+}
+
+// How many bytes were written, or a refusal's number.
+pub enum Written {
+    Bytes(usize),
+    Refused(u8),
+}
+
+fn phase_of(entry: usize) -> Phase
+    ensures { λ r. ⌜ r ≡ phase-of entry ⌝ }
+{
+    if entry / 2 % 2 == 0 {
+        return Phase::Prevote;
+    }
+    Phase::Precommit
+}
+
+fn chosen(recorded: VoteMultiplicity, later: bool) -> Pair
+    ensures { λ r. ⌜ r ≡ chosen recorded later ⌝ }
+{
+    match recorded {
+        VoteMultiplicity::Silent => Pair {
+            target: 0,
+            number: 0,
+            signature: 0,
+        },
+        VoteMultiplicity::Single(first) => first,
+        VoteMultiplicity::Equivocated(first, second) => {
+            if later {
+                return second;
+            }
+            first
+        }
+    }
+}
+
+// The pair of an entry.
+fn pair_of<'a>(
+    times: &'a [u8; 128],
+    places: &'a [u8; 128],
+    signatures: &'a [u64; 128],
+    targets: &'a [u32; 128],
+    numbers: &'a [u32; 128],
+    seconds: &'a [u64; 128],
+    ids: &'a [u32; 256],
+    heights: &'a [u32; 256],
+    entry: usize,
+) -> Pair
+    requires { ⌜ entry < 256 ⌝ }
+    ensures { λ r. ⌜ r ≡ pair-of (record { times = now (times .entry); places = now (places .entry); signatures = now (signatures .entry); targets = now (targets .entry); numbers = now (numbers .entry); seconds = now (seconds .entry) }) (now (ids .entry)) (now (heights .entry)) entry ⌝ }
+{
+    let recorded = tracker::recorded(
+        times,
+        places,
+        signatures,
+        targets,
+        numbers,
+        seconds,
+        ids,
+        heights,
+        entry / 2,
+    );
+    chosen(recorded, entry % 2 == 1)
+}
+
+// The records of entries, from the start of what is lent; the bytes after the last stay.
+pub fn write<'a>(
+    entries: &'a [u8; 256],
+    count: usize,
+    times: &'a [u8; 128],
+    places: &'a [u8; 128],
+    signatures: &'a [u64; 128],
+    targets: &'a [u32; 128],
+    numbers: &'a [u32; 128],
+    seconds: &'a [u64; 128],
+    voters: &'a [u32; 64],
+    ids: &'a [u32; 256],
+    heights: &'a [u32; 256],
+    out: &mut [u8],
+) -> Written
+    requires { ⌜ count ≤ 256 ⌝ }
+    ensures { λ r. ⌜ _≡_ {A = Lent} (record { answer = r; bytes = now (out .exit) })
+        (written (record-of (record { times = now (times .entry); places = now (places .entry); signatures = now (signatures .entry); targets = now (targets .entry); numbers = now (numbers .entry); seconds = now (seconds .entry) }) (now (voters .entry)) (now (ids .entry)) (now (heights .entry))) (front count (now (entries .entry))) (now (out .entry))) ⌝ }
+{
+    if out.len() < 22 * count {
+        return Written::Refused(14);
+    }
+    let mut used = 0;
+    for k in 0..count {
+        let entry = wide(entries[k]);
+        let phase = phase_of(entry);
+        let pair = pair_of(
+            times,
+            places,
+            signatures,
+            targets,
+            numbers,
+            seconds,
+            ids,
+            heights,
+            entry,
+        );
+        records::put_vote(&mut out[used..], phase, voters[entry / 4], pair);
+        used = used + 22;
+    }
+    Written::Bytes(used)
 }

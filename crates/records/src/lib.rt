@@ -54,5 +54,12 @@ pub fn put_vote(out: &mut [u8], phase: Phase, voter: u32, pair: Pair)
     requires { ⌜ 22 ≤ length (now out) ⌝ }
     ensures { λ _. ⌜ now (out .exit) ≡ vote-bytes phase voter pair ++ drop 22 (now (out .entry)) ⌝ }
 {
-    put(out, mark(phase), voter, pair.target, pair.number, pair.signature);
+    put(
+        out,
+        mark(phase),
+        voter,
+        pair.target,
+        pair.number,
+        pair.signature,
+    );
 }
