@@ -1,13 +1,18 @@
 -- The numbers below n as a list, and the loop that keeps those that pass.
-use mathlib.Core.Bool.{Bool, true, false}
+use mathlib.Core.Bool.{Bool, true, false, cond}
 use mathlib.Core.List.{List, [], _∷_, _++_}
 use mathlib.Core.Path.{_≡_, refl, sym, ap, subst, _∙_}
+use mathlib.Core.Logic.{_⊎_, inl, inr}
 use Prim.Native.Nat.{ℕ, zero, suc, _+_, _≤_, _<_}
 use native.Mathlib.Decide.{ℕ-discrete}
 use native.Mathlib.Omega.{arith}
+use lib.Dec.{ltb}
 use lib.ListN.{getD, set, length, length-append, List·getD-append}
 use lib.Seq.{getD-at}
-use Rattle.loops.specs.Listing.{front, keep}
+use borrow.Author.Tests.{lt-ltb, le-ltb}
+use Rattle.loops.specs.Listing.{times, front, keep}
+use Rattle.loops.proofs.Tests.{le-or-lt}
+use Rattle.loops.proofs.Listings.{times-none, times-end, times-not-end, times-keep}
 use Rattle.nodes.specs.declared.Places.{Places}
 use Rattle.nodes.specs.Nodes.{placed}
 use Rattle.nodes.proofs.Lists.{Laid, laid-skip, laid-next, laid-end}
@@ -48,3 +53,27 @@ module _ (p : ℕ → Bool) where
       → record { places = places; count = n } ≡ placed (keep p (counting m))
   counted-end m n places e l q h =
       laid-end p (counting 256) m n places e l q ∙ ap (λ (xs : List ℕ). placed (keep p xs)) (front-counting 256 m h)
+
+-- a number below n is there once, and no other
+pub times-counting : (e n : ℕ) → times e (counting n) ≡ cond (ltb e n) 1 0
+unfolding counting
+times-counting e zero = rw (le-ltb e 0 (omega arith)) (times-none e)
+times-counting e (suc n) = go (ℕ-discrete n e) (le-or-lt n e) (times-counting e n)
+  where
+    go : Dec (n ≡ e) → (n ≤ e) ⊎ (e < n) → times e (counting n) ≡ cond (ltb e n) 1 0 → times e (counting n ++ (n ∷ [])) ≡ cond (ltb e (suc n)) 1 0
+    go (yes q) o r =
+        let out : ltb e n ≡ false = le-ltb e n (omega arith) in
+        let into : ltb e (suc n) ≡ true = lt-ltb e (suc n) (omega arith) in
+        rw (into, q) (times-end e (counting e) ∙ ap suc (rw q at (rw out at r)))
+    go (no q) (inl h) r =
+        let out : ltb e n ≡ false = le-ltb e n (omega arith) in
+        let still : ltb e (suc n) ≡ false = le-ltb e (suc n) (omega arith) in
+        rw still (times-not-end e n (counting n) q ∙ rw out at r)
+    go (no q) (inr h) r =
+        let into : ltb e n ≡ true = lt-ltb _ _ h in
+        let still : ltb e (suc n) ≡ true = lt-ltb e (suc n) (omega arith) in
+        rw still (times-not-end e n (counting n) q ∙ rw into at r)
+
+-- a list of wanted entries has each that is wanted once, and no other
+pub listed-once : (p : ℕ → Bool) (e n : ℕ) → times e (keep p (counting n)) ≡ cond (p e) (cond (ltb e n) 1 0) 0
+listed-once p e n = times-keep p e (counting n) ∙ ap (λ (m : ℕ). cond (p e) m 0) (times-counting e n)

@@ -15,6 +15,7 @@ use Rattle.nodes.specs.Nodes.{col}
 use Rattle.tracker.specs.declared.Votes.{Votes}
 use Rattle.tracker.specs.declared.Pair.{Pair}
 use Rattle.records.specs.Bytes.{vote-bytes}
+use Rattle.records.proofs.Bytes.{length-vote}
 use Rattle.listing.specs.declared.Written.the-variants.{Bytes, Refused}
 use Rattle.listing.specs.Written.{phase-of, pair-of, record-of, in-a-row, Lent, written}
 
@@ -115,8 +116,8 @@ filled-not f xs old n short = rw (length-front n xs, lt-ltb _ _ short)
 -- the record of an entry
 module _ (v : Votes) (voters ids heights : List ℕ) where
   pub record-size : (e : ℕ) → length (record-of v voters ids heights e) ≡ 22
-  unfolding record-of vote-bytes
-  record-size e = refl
+  unfolding record-of
+  record-size e = length-vote (phase-of e) (col voters (e / 4)) (pair-of v ids heights e)
 
   pub record-is : (e entry : ℕ) (phase : Phase) (pair : Pair) → entry ≡ e → phase ≡ phase-of entry → pair ≡ pair-of v ids heights entry
       → vote-bytes phase (col voters (entry / 4)) pair ≡ record-of v voters ids heights e
