@@ -110,16 +110,16 @@ fn updated<'a>(
 }
 
 // A vote, taken by the verdict on it.
-pub fn import(
-    voters: &[u32; 64],
-    weights: &[u64; 64],
+pub fn import<'a>(
+    voters: &'a [u32; 64],
+    weights: &'a [u64; 64],
     size: usize,
     total: u64,
     threshold: u64,
     number: u64,
-    ids: &[u32; 256],
-    heights: &[u32; 256],
-    parents: &[u8; 256],
+    ids: &'a [u32; 256],
+    heights: &'a [u32; 256],
+    parents: &'a [u8; 256],
     blocks: usize,
     base: u8,
     used: &mut [bool; 256],
