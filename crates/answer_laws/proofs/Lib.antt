@@ -1,1 +1,3 @@
 pub mod Weighed
+pub mod Searched
+pub mod Telling

@@ -1,5 +1,6 @@
 -- What the laws suppose of a round: that its columns tell what is recorded. Document 01, "Shape rules": total and T as
 -- above; heard weights, node bits and equivocator bits as the recorded votes say.
+use mathlib.Core.Bool.{false}
 use mathlib.Core.List.{List}
 use mathlib.Core.Option.{Option, none, some}
 use mathlib.Core.Path.{_≡_}
@@ -68,6 +69,16 @@ pub record Within (k : Setting) (b : ℕ) : Type 0 where
   pub node : ℕ
   pub is-node : T (flag (k .graph .used) node)
   pub under : T (below (col (k .parents)) b node)
+
+abbrev pub All-within : Setting → Option ℕ → Type 0
+All-within k none = Unit {0}
+All-within k (some g) = Within k g
+
+-- stored beside the prevote-GHOST o before it can be told: nothing
+pub record Untold (k : Setting) (o : Option ℕ) (a : Answers) : Type 0 where
+  pub ghost-is : a .prevote ≡ as-found o
+  pub early : k .heard .precommit < k .set .threshold → (a .finalized ≡ Nothing) × (a .completable ≡ false)
+  pub before : o ≡ none → (a .finalized ≡ Nothing) × (a .estimate ≡ Nothing) × (a .completable ≡ false)
 
 -- the answers, the stored precommit-GHOST beside them
 abbrev pub stored : Found → Told → Answers

@@ -116,11 +116,17 @@ module _ (s : Scene) (total : ℕ) (heard : Heard) (a : Answers) where
     update-none e = rw (le-leb (s .threshold) (heard .prevote) h, e)
 
     module _ (g : ℕ) (e : a .prevote ≡ At g) where
+      pub update-waits : heard .precommit < s .threshold → waiting a g ≡ update s total heard a
+      unfolding update
+      update-waits k = rw (le-leb (s .threshold) (heard .prevote) h, e, lt-leb (s .threshold) (heard .precommit) k)
+
+      pub update-goes : s .threshold ≤ heard .precommit → reached s total (heard .precommit) a g ≡ update s total heard a
+      unfolding update
+      update-goes k = rw (le-leb (s .threshold) (heard .prevote) h, e, le-leb (s .threshold) (heard .precommit) k)
+
+      -- the same as the code finds it
       pub update-waiting : heard .precommit < s .threshold → waiting (with-prevote a (At g)) g ≡ update s total heard a
-      update-waiting k = ap (λ (o : Found). waiting (with-prevote a o) g) (sym e) ∙ go
-        where
-          go : waiting a g ≡ update s total heard a
-          go = unfold update in rw (le-leb (s .threshold) (heard .prevote) h, e, lt-leb (s .threshold) (heard .precommit) k)
+      update-waiting k = ap (λ (o : Found). waiting (with-prevote a o) g) (sym e) ∙ update-waits k
 
       pub update-reached : Grounded (s .parents) (s .base) (s .graph) → s .threshold ≤ heard .precommit
           → (w : ℕ) (p : PossibleToPrecommit) → w ≡ weightOf (s .weights) (voted (s .equivocations) Precommit)
@@ -129,10 +135,7 @@ module _ (s : Scene) (total : ℕ) (heard : Heard) (a : Answers) where
           → record { prevote = At g; precommit = a .precommit; finalized = f; estimate = x; completable = z } ≡ update s total heard a
       update-reached ground k w p u v f x z pf px pz =
           ap (λ (o : Found). made o f x z) (sym e)
-          ∙ rw (pz, ancestor-seen s ground _ g x px, ancestor-seen s ground _ g f pf, v, u) go
+          ∙ rw (pz, ancestor-seen s ground _ g x px, ancestor-seen s ground _ g f pf, v, u) (update-goes k)
         where
           made : Found → Found → Found → Bool → Answers
           made o f x z = record { prevote = o; precommit = a .precommit; finalized = f; estimate = x; completable = z }
-
-          go : reached s total (heard .precommit) a g ≡ update s total heard a
-          go = unfold update in rw (le-leb (s .threshold) (heard .prevote) h, e, le-leb (s .threshold) (heard .precommit) k)
