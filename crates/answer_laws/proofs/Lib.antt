@@ -1,3 +1,5 @@
 pub mod Weighed
 pub mod Searched
 pub mod Telling
+pub mod Kept
+pub mod Ghosted

@@ -52,6 +52,10 @@ votes k phase p = k .cast (bit phase p)
 abbrev pub scene-of : Setting → Scene
 scene-of k = scene (k .parents) (k .base) (k .set .weights) (k .set .threshold) (k .graph) (k .equivocations)
 
+abbrev pub heard-in : Phase → Heard → ℕ
+heard-in Prevote h = h .prevote
+heard-in Precommit h = h .precommit
+
 pub record Faithful (k : Setting) : Type 0 where
   pub good : Good (k .set)
   pub fits : k .set .total ≤ most
@@ -73,6 +77,10 @@ pub record Within (k : Setting) (b : ℕ) : Type 0 where
 abbrev pub All-within : Setting → Option ℕ → Type 0
 All-within k none = Unit {0}
 All-within k (some g) = Within k g
+
+abbrev pub Found-within : Setting → Found → Type 0
+Found-within k Nothing = Unit {0}
+Found-within k (At b) = Within k b
 
 -- stored beside the prevote-GHOST o before it can be told: nothing
 pub record Untold (k : Setting) (o : Option ℕ) (a : Answers) : Type 0 where
