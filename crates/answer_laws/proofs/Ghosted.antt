@@ -1,19 +1,18 @@
 -- The GHOST of a phase: from a start of weight T or more it is found, at or below the start; with equivocators at most F
 -- it is the definition's.
-use mathlib.Core.Bool.{Bool, true, false, cond, not}
-use mathlib.Core.List.{List}
+use mathlib.Core.Bool.{Bool}
 use mathlib.Core.Option.{Option, none, some}
 use mathlib.Core.Path.{_≡_, refl, sym, ap, subst, _∙_}
 use mathlib.Core.Logic.{⊎-elim}
 use Prim.Native.Nat.{ℕ, _≤_, _<_}
 use native.Mathlib.Omega.{arith}
-use lib.Dec.{T, leb, leb→le, le→leb, not-T}
+use lib.Dec.{T, le→leb, not-T}
 use borrow.Author.Tests.{le-leb}
 use Rattle.grandpa.specs.Weight.{fault, threshold}
 use Rattle.grandpa.specs.Tree.{below, child}
 use Rattle.grandpa.specs.Vote as meant
 use Rattle.grandpa.specs.Vote.{Vote, silent, once, twice, total, equivocators}
-use Rattle.grandpa.specs.Answers.{Says, Ghost, ghost-of, told}
+use Rattle.grandpa.specs.Answers.{Says, Ghost, ghost-of}
 use Rattle.grandpa.specs.Time.{Placed, Votes-placed}
 use Rattle.grandpa.proofs.Trees.{below-refl, below-trans}
 use Rattle.grandpa.proofs.Votes.{base-weight}
@@ -31,8 +30,7 @@ use Rattle.nodes.specs.declared.Found.the-variants.{At, Nothing}
 use Rattle.nodes.specs.Nodes.{col, flag, passes}
 use Rattle.nodes.specs.Columns.{view, as-found}
 use Rattle.vote_search.proofs.Questions.{passes-mono}
-use Rattle.answers.specs.declared.Heard.{Heard}
-use Rattle.answers.specs.Update.{Scene, weighty, start-of, ghost-from, phase-ghost}
+use Rattle.answers.specs.Update.{weighty, start-of, phase-ghost}
 use Rattle.answer_laws.specs.Faithful.{Setting, table, voters, votes, scene-of, heard-in, Faithful, Within, Found-within}
 use Rattle.answer_laws.proofs.Weighed.{threshold-is, weighty-is}
 use Rattle.answer_laws.proofs.Searched.{Ends, tabled-in}

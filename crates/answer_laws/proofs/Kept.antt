@@ -1,9 +1,9 @@
 -- The steps keep stored blocks in the table and at or below the base.
-use mathlib.Core.Bool.{Bool, true, false, cond, not, _&&_}
+use mathlib.Core.Bool.{Bool, not, _&&_}
 use mathlib.Core.List.{List}
 use mathlib.Core.Option.{Option, none, some}
-use mathlib.Core.Path.{_≡_, refl, sym, ap, subst}
-use Prim.Native.Nat.{ℕ, pred, _≤_, _<_}
+use mathlib.Core.Path.{sym, subst}
+use Prim.Native.Nat.{ℕ, _≤_, _<_}
 use native.Mathlib.Omega.{arith}
 use lib.Dec.{T, leb, not-T}
 use Rattle.loops.proofs.Tests.{by-test, decT}
@@ -16,7 +16,7 @@ use Rattle.context.specs.declared.Phase.{Phase}
 use Rattle.context.specs.declared.Phase.the-variants.{Prevote, Precommit}
 use Rattle.graph.specs.Search.{containing}
 use Rattle.graph.specs.Graph.{tally}
-use Rattle.graph.specs.Ghost.{is-nil, find-ancestor, find-ghost}
+use Rattle.graph.specs.Ghost.{is-nil, find-ancestor}
 use Rattle.graph.specs.Shape.{Shape}
 use Rattle.graph.proofs.Ghosts.{ghost-ends, ghost-none}
 use Rattle.nodes.specs.declared.Found.{Found}
@@ -27,7 +27,7 @@ use Rattle.nodes.specs.Columns.{view, as-found}
 use Rattle.vote_search.proofs.Questions.{passes-mono}
 use Rattle.answers.specs.declared.Answers.{Answers}
 use Rattle.answers.specs.declared.Heard.{Heard}
-use Rattle.answers.specs.Update.{Scene, In-base, weighty, still, start-of, ghost-from, ancestor-from, phase-ghost, with-prevote, with-ghost, waiting, reached, from-ghost, update, told-after}
+use Rattle.answers.specs.Update.{Scene, In-base, weighty, still, start-of, ghost-from, ancestor-from, phase-ghost, with-ghost, waiting, reached, from-ghost, update, told-after}
 use Rattle.answer_laws.specs.Seats.{Seated, All-seated}
 
 -- what the searches ask of a stored block

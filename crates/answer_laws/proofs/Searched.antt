@@ -1,40 +1,35 @@
 -- The searches end where the definitions say.
-use mathlib.Core.Bool.{Bool, true, false, not, _&&_, _||_}
-use mathlib.Core.List.{List}
+use mathlib.Core.Bool.{Bool, not, _&&_, _||_}
 use mathlib.Core.Option.{Option, none, some}
 use mathlib.Core.Path.{_≡_, refl, sym, ap, subst, fun-ext, _∙_}
-use mathlib.Core.Logic.{_≢_, _⊎_, inl, inr, ⊎-elim}
-use Prim.Native.Nat.{ℕ, zero, suc, pred, _+_, _*_, _/_, _%_, _≤_, _<_}
+use mathlib.Core.Logic.{_⊎_, inl, inr, ⊎-elim}
+use Prim.Native.Nat.{ℕ, zero, suc, _/_, _%_, _≤_, _<_}
 use native.Mathlib.Decide.{ℕ-discrete}
 use native.Mathlib.Omega.{arith}
-use lib.Dec.{T, eqb, ltb, eqb→eq, eqb-refl, lt→ltb, ltb→lt, T-not, not-T}
-use lib.ListN.{length}
+use lib.Dec.{T, eqb, ltb, eqb→eq, eqb-refl, lt→ltb, T-not, not-T}
 use borrow.Author.Tests.{eq-eqb, ne-eqb}
-use Rattle.loops.specs.All.{all, any}
-use Rattle.loops.proofs.Tests.{both, left-of, right-of, in-left, in-right, either, same-test, decT, le-or-lt}
+use Rattle.loops.specs.All.{all}
+use Rattle.loops.proofs.Tests.{both, left-of, right-of, in-left, in-right, either, same-test, le-or-lt}
 use Rattle.loops.proofs.Alls.{all-at, all-intro, any-at, any-intro}
 use Rattle.grandpa.specs.Tree.{below, child}
 use Rattle.grandpa.specs.Vote as meant
-use Rattle.grandpa.specs.Vote.{Vote, silent, once, twice, lands, noded}
+use Rattle.grandpa.specs.Vote.{Vote, silent, lands, noded}
 use Rattle.grandpa.specs.Possible.{possible-at}
 use Rattle.grandpa.specs.Answers.{First, Says, first-of, with-node, settled-at}
-use Rattle.grandpa.proofs.Trees.{below-le, below-trans, child-below}
+use Rattle.grandpa.proofs.Trees.{below-le, child-below}
 use Rattle.grandpa.proofs.Searches.{first-says}
-use Rattle.bitfield.specs.Bits.{has}
-use Rattle.context.specs.declared.Phase.{Phase}
 use Rattle.context.specs.declared.Phase.the-variants.{Prevote, Precommit}
-use Rattle.context.specs.Votes.{offset, bit}
+use Rattle.context.specs.Votes.{bit}
 use Rattle.graph.specs.Graph.{tally}
 use Rattle.graph.specs.Shape.{Targets}
-use Rattle.graph.specs.Ghost.{find-ghost, find-ancestor}
 use Rattle.graph.proofs.Tallies.{lands-target, target-lands}
-use Rattle.graph.proofs.Ghosts.{Ended, ghost-ends, ghost-none, ghost-stays, ancestor-is}
+use Rattle.graph.proofs.Ghosts.{Ended, ghost-ends, ghost-stays, ancestor-is}
 use Rattle.nodes.specs.declared.Found.the-variants.{At}
 use Rattle.nodes.specs.declared.Question.{Question}
 use Rattle.nodes.specs.Nodes.{col, flag, passes}
 use Rattle.nodes.specs.Columns.{view, as-found}
 use Rattle.vote_search.proofs.Questions.{passes-mono}
-use Rattle.answers.specs.Update.{Scene, weighty, still, ancestor-from, ghost-from, ends-at, settled}
+use Rattle.answers.specs.Update.{weighty, still, ancestor-from, ghost-from, ends-at, settled}
 use Rattle.answer_laws.specs.Faithful.{Setting, table, voters, votes, scene-of, Faithful, Within}
 use Rattle.answer_laws.proofs.Weighed.{weighty-is, possible-is}
 

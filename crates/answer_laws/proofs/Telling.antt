@@ -1,7 +1,7 @@
 -- `update` stores the four answers that the definitions give for the stored prevote-GHOST.
-use mathlib.Core.Bool.{Bool, true, false, cond, not, _&&_}
+use mathlib.Core.Bool.{Bool, true, false}
 use mathlib.Core.Option.{Option, none, some}
-use mathlib.Core.Path.{_≡_, refl, sym, ap, _∙_}
+use mathlib.Core.Path.{_≡_, refl, sym, _∙_}
 use mathlib.Core.Logic.{_⊎_, inl, inr}
 use Prim.Native.Nat.{ℕ, _≤_, _<_}
 use native.Mathlib.Omega.{arith}
@@ -11,12 +11,10 @@ use Rattle.loops.proofs.Tests.{le-or-lt}
 use Rattle.grandpa.specs.Weight.{threshold}
 use Rattle.grandpa.specs.Vote as meant
 use Rattle.grandpa.specs.Vote.{total}
-use Rattle.grandpa.specs.Answers.{first-of, finalized-of, estimate-of, completable-of, Told, told-from}
+use Rattle.grandpa.specs.Answers.{finalized-of, estimate-of, completable-of, Told, told-from}
 use Rattle.context.specs.declared.Phase.the-variants.{Prevote, Precommit}
 use Rattle.nodes.specs.declared.Found.{Found}
 use Rattle.nodes.specs.declared.Found.the-variants.{At, Nothing}
-use Rattle.nodes.specs.Nodes.{col}
-use Rattle.nodes.specs.Columns.{as-found}
 use Rattle.answers.specs.declared.Answers.{Answers}
 use Rattle.answers.specs.Update.{waiting, reached, update}
 use Rattle.answers.proofs.Steps.{update-none, update-waits, update-goes}

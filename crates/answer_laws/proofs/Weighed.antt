@@ -1,34 +1,27 @@
 -- The questions that the searches ask of joined bits are the definitions' of recorded votes.
 use mathlib.Core.Bool.{Bool, true, false, _||_}
 use mathlib.Core.List.{List}
-use mathlib.Core.Path.{_≡_, refl, sym, ap, subst, fun-ext, _∙_}
-use Prim.Native.Nat.{ℕ, pred, _≤_, _<_}
-use native.Mathlib.Omega.{arith}
-use lib.Dec.{T, leb}
-use lib.ListN.{getD}
-use Rattle.loops.specs.Sum.{sum}
+use mathlib.Core.Path.{_≡_, refl, ap, _∙_}
+use Prim.Native.Nat.{ℕ}
 use Rattle.loops.proofs.Tests.{or-false}
 use Rattle.loops.proofs.Sums.{weigh-cong}
-use Rattle.weights.specs.Weights.{most}
 use Rattle.grandpa.specs.Weight.{threshold}
 use Rattle.grandpa.specs.Tree.{below}
 use Rattle.grandpa.specs.Vote as meant
 use Rattle.grandpa.specs.Vote.{Vote, silent, once, twice, total, equivocated, backs, lands, equivocators, phase-weight}
-use Rattle.grandpa.specs.Possible.{asked, enough, possible, possible-at}
+use Rattle.grandpa.specs.Possible.{possible-at}
 use Rattle.grandpa.proofs.Numbers.{possible-asked}
-use Rattle.voter_set.specs.declared.VoterSet.{VoterSet}
 use Rattle.voter_set.proofs.Goods.{total-used}
-use Rattle.bitfield.specs.Bits.{has}
 use Rattle.context.specs.declared.Phase.{Phase}
-use Rattle.context.specs.declared.Phase.the-variants.{Prevote, Precommit}
+use Rattle.context.specs.declared.Phase.the-variants.{Precommit}
 use Rattle.context.specs.Votes.{bit, voted, weightOf}
 use Rattle.context.proofs.Contexts.{weight-good}
 use Rattle.graph.specs.Graph.{tally}
 use Rattle.graph.proofs.Tallies.{tally-told}
 use Rattle.nodes.specs.Nodes.{col, passes}
 use Rattle.nodes.specs.Columns.{view}
-use Rattle.answers.specs.Update.{Scene, weighty, still}
-use Rattle.answer_laws.specs.Faithful.{Setting, table, voters, votes, scene-of, Faithful}
+use Rattle.answers.specs.Update.{weighty, still}
+use Rattle.answer_laws.specs.Faithful.{Setting, voters, votes, scene-of, Faithful}
 
 -- who landed at or below a block or equivocated backs it
 backs-is : (up : ℕ → ℕ) (b : ℕ) (x : Vote) → (lands up b x || equivocated x) ≡ backs up b x

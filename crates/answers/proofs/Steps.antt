@@ -1,11 +1,11 @@
 -- One law for each way through a step, and where the searches may start.
-use mathlib.Core.Bool.{Bool, true, false, cond, not, _&&_, _||_}
+use mathlib.Core.Bool.{Bool, true, false, not, _&&_}
 use mathlib.Core.List.{List}
 use mathlib.Core.Option.{Option, none, some}
-use mathlib.Core.Path.{_≡_, refl, sym, ap, subst, _∙_}
+use mathlib.Core.Path.{_≡_, sym, ap, subst, _∙_}
 use mathlib.Core.Logic.{_≢_}
-use Prim.Native.Nat.{ℕ, pred, _≤_, _<_}
-use lib.Dec.{T, eqb, leb}
+use Prim.Native.Nat.{ℕ, _≤_, _<_}
+use lib.Dec.{T}
 use borrow.Author.Tests.{le-leb, lt-leb, eq-eqb, ne-eqb}
 use Rattle.loops.proofs.Tests.{by-test}
 use Rattle.grandpa.specs.Tree.{below}
@@ -25,12 +25,12 @@ use Rattle.nodes.specs.declared.Found.the-variants.{At, Nothing}
 use Rattle.nodes.specs.declared.Condition.the-variants.{Possible}
 use Rattle.nodes.specs.declared.Question.{Question}
 use Rattle.nodes.specs.Nodes.{col, passes, Falls}
-use Rattle.nodes.specs.Columns.{Columns, Sound, view, as-found}
+use Rattle.nodes.specs.Columns.{Columns, as-found}
 use Rattle.vote_search.specs.Searches.{Stands, unlisted}
 use Rattle.vote_search.proofs.Ancestors.{ancestor-unlisted}
 use Rattle.answers.specs.declared.Answers.{Answers}
 use Rattle.answers.specs.declared.Heard.{Heard}
-use Rattle.answers.specs.Update.{Scene, Grounded, In-base, start-of, ghost-from, ancestor-from, weighty, still, phase-ghost, with-prevote, with-ghost, ends-at, settled, waiting, reached, from-ghost, update}
+use Rattle.answers.specs.Update.{Scene, Grounded, In-base, start-of, ghost-from, ancestor-from, weighty, phase-ghost, with-prevote, with-ghost, ends-at, settled, waiting, reached, update}
 
 -- a search starts at or below the base
 pub start-in : (parents : List ℕ) (base : ℕ) (graph : Columns) → Grounded parents base graph → (o : Found) → In-base parents base o
