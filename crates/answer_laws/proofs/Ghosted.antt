@@ -104,6 +104,21 @@ module _ (k : Setting) (f : Faithful k) where
           childless = λ c y p u l t. e .childless c y p u l (subst T (sym (weighty-is k f phase c)) t);
         }
 
+    -- with equivocators at most F, the definition's
+    pub settles-meant : 0 < total (voters k) → equivocators (voters k) (votes k phase) ≤ fault (total (voters k))
+        → k .set .threshold ≤ heard-in phase (k .heard) → (b r : ℕ) → Settles b r → ghost-of (voters k) (table k) (votes k phase) ≡ some r
+    settles-meant some-weight few h b r e = go (ghost-of (voters k) (table k) (votes k phase)) (ghost-says (voters k) (table k) (votes k phase))
+      where
+        meaning : Ghost (voters k) (table k) (votes k phase) r
+        meaning =
+            ghost-meant (voters k) (table k) (f .tabled) some-weight (votes k phase) few (flag (k .graph .used))
+            (λ i x l a. f .shape .voted .target-used (bit phase i) x a) r (omega (arith, threshold-is k f, heard-is))
+            (tabled-in k f r (e .within)) (e .enough) (e .childless)
+
+        go : (o : Option ℕ) → Says (Ghost (voters k) (table k) (votes k phase)) o → o ≡ some r
+        go none n = absurd (n r meaning)
+        go (some x) p = ap some (ghost-unique (voters k) (table k) (f .tabled) some-weight (votes k phase) few x r p meaning)
+
     module _ (o : Found) (w : Found-within k o) where
       abbrev start : ℕ
       start = start-of o (k .base)
@@ -141,14 +156,4 @@ module _ (k : Setting) (f : Faithful k) where
           → phase-ghost (scene-of k) phase (heard-in phase (k .heard)) o ≡ as-found (ghost-of (voters k) (table k) (votes k phase))
       ghost-is some-weight few h t =
           let r = ghost-goes h t in
-          r .1 ∙ ap as-found (sym (only (r .0)
-          (ghost-meant (voters k) (table k) (f .tabled) some-weight (votes k phase) few (flag (k .graph .used))
-          (λ i x l a. f .shape .voted .target-used (bit phase i) x a) (r .0) (omega (arith, threshold-is k f, heard-is))
-          (tabled-in k f (r .0) (r .2 .within)) (r .2 .enough) (r .2 .childless))))
-        where
-          only : (r : ℕ) → Ghost (voters k) (table k) (votes k phase) r → ghost-of (voters k) (table k) (votes k phase) ≡ some r
-          only r g = go (ghost-of (voters k) (table k) (votes k phase)) (ghost-says (voters k) (table k) (votes k phase))
-            where
-              go : (o : Option ℕ) → Says (Ghost (voters k) (table k) (votes k phase)) o → o ≡ some r
-              go none n = absurd (n r g)
-              go (some x) p = ap some (ghost-unique (voters k) (table k) (f .tabled) some-weight (votes k phase) few x r p g)
+          r .1 ∙ ap as-found (sym (settles-meant some-weight few h start (r .0) (r .2)))

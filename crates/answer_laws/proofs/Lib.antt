@@ -3,3 +3,4 @@ pub mod Searched
 pub mod Telling
 pub mod Kept
 pub mod Ghosted
+pub mod Imports
