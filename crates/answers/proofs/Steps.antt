@@ -1,11 +1,11 @@
 -- One law for each way through a step, and where the searches may start.
-use mathlib.Core.Bool.{Bool, true, false, cond, not, _&&_, _||_}
+use mathlib.Core.Bool.{Bool, true, false, not, _&&_}
 use mathlib.Core.List.{List}
 use mathlib.Core.Option.{Option, none, some}
-use mathlib.Core.Path.{_≡_, refl, sym, ap, subst, _∙_}
+use mathlib.Core.Path.{_≡_, sym, ap, subst, _∙_}
 use mathlib.Core.Logic.{_≢_}
-use Prim.Native.Nat.{ℕ, pred, _≤_, _<_}
-use lib.Dec.{T, eqb, leb}
+use Prim.Native.Nat.{ℕ, _≤_, _<_}
+use lib.Dec.{T}
 use borrow.Author.Tests.{le-leb, lt-leb, eq-eqb, ne-eqb}
 use Rattle.loops.proofs.Tests.{by-test}
 use Rattle.grandpa.specs.Tree.{below}
@@ -25,12 +25,12 @@ use Rattle.nodes.specs.declared.Found.the-variants.{At, Nothing}
 use Rattle.nodes.specs.declared.Condition.the-variants.{Possible}
 use Rattle.nodes.specs.declared.Question.{Question}
 use Rattle.nodes.specs.Nodes.{col, passes, Falls}
-use Rattle.nodes.specs.Columns.{Columns, Sound, view, as-found}
+use Rattle.nodes.specs.Columns.{Columns, as-found}
 use Rattle.vote_search.specs.Searches.{Stands, unlisted}
 use Rattle.vote_search.proofs.Ancestors.{ancestor-unlisted}
 use Rattle.answers.specs.declared.Answers.{Answers}
 use Rattle.answers.specs.declared.Heard.{Heard}
-use Rattle.answers.specs.Update.{Scene, Grounded, In-base, start-of, ghost-from, ancestor-from, weighty, still, phase-ghost, with-prevote, with-ghost, ends-at, settled, waiting, reached, from-ghost, update}
+use Rattle.answers.specs.Update.{Scene, Grounded, In-base, start-of, ghost-from, ancestor-from, weighty, phase-ghost, with-prevote, with-ghost, ends-at, settled, waiting, reached, update}
 
 -- a search starts at or below the base
 pub start-in : (parents : List ℕ) (base : ℕ) (graph : Columns) → Grounded parents base graph → (o : Found) → In-base parents base o
@@ -116,11 +116,17 @@ module _ (s : Scene) (total : ℕ) (heard : Heard) (a : Answers) where
     update-none e = rw (le-leb (s .threshold) (heard .prevote) h, e)
 
     module _ (g : ℕ) (e : a .prevote ≡ At g) where
+      pub update-waits : heard .precommit < s .threshold → waiting a g ≡ update s total heard a
+      unfolding update
+      update-waits k = rw (le-leb (s .threshold) (heard .prevote) h, e, lt-leb (s .threshold) (heard .precommit) k)
+
+      pub update-goes : s .threshold ≤ heard .precommit → reached s total (heard .precommit) a g ≡ update s total heard a
+      unfolding update
+      update-goes k = rw (le-leb (s .threshold) (heard .prevote) h, e, le-leb (s .threshold) (heard .precommit) k)
+
+      -- the same as the code finds it
       pub update-waiting : heard .precommit < s .threshold → waiting (with-prevote a (At g)) g ≡ update s total heard a
-      update-waiting k = ap (λ (o : Found). waiting (with-prevote a o) g) (sym e) ∙ go
-        where
-          go : waiting a g ≡ update s total heard a
-          go = unfold update in rw (le-leb (s .threshold) (heard .prevote) h, e, lt-leb (s .threshold) (heard .precommit) k)
+      update-waiting k = ap (λ (o : Found). waiting (with-prevote a o) g) (sym e) ∙ update-waits k
 
       pub update-reached : Grounded (s .parents) (s .base) (s .graph) → s .threshold ≤ heard .precommit
           → (w : ℕ) (p : PossibleToPrecommit) → w ≡ weightOf (s .weights) (voted (s .equivocations) Precommit)
@@ -129,10 +135,7 @@ module _ (s : Scene) (total : ℕ) (heard : Heard) (a : Answers) where
           → record { prevote = At g; precommit = a .precommit; finalized = f; estimate = x; completable = z } ≡ update s total heard a
       update-reached ground k w p u v f x z pf px pz =
           ap (λ (o : Found). made o f x z) (sym e)
-          ∙ rw (pz, ancestor-seen s ground _ g x px, ancestor-seen s ground _ g f pf, v, u) go
+          ∙ rw (pz, ancestor-seen s ground _ g x px, ancestor-seen s ground _ g f pf, v, u) (update-goes k)
         where
           made : Found → Found → Found → Bool → Answers
           made o f x z = record { prevote = o; precommit = a .precommit; finalized = f; estimate = x; completable = z }
-
-          go : reached s total (heard .precommit) a g ≡ update s total heard a
-          go = unfold update in rw (le-leb (s .threshold) (heard .prevote) h, e, le-leb (s .threshold) (heard .precommit) k)
