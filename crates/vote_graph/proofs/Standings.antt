@@ -17,7 +17,7 @@ use Rattle.blocks.specs.Add.{place-of, on-place}
 use Rattle.block_laws.proofs.Adds.{found-stands}
 use Rattle.graph.specs.Ghost as steps
 use Rattle.graph.specs.Graph.{tally}
-use Rattle.nodes.specs.Nodes.{col, flag, row, Falls, passes}
+use Rattle.nodes.specs.Nodes.{col, flag, Falls, passes}
 use Rattle.nodes.specs.Columns.{Columns, Sound, view, as-found}
 use Rattle.nodes.specs.declared.Found.{Found}
 use Rattle.nodes.specs.declared.Found.the-variants as found
