@@ -15,8 +15,8 @@ use Rattle.vote_insert.proofs.Keeps.{sound-inserted}
 use Rattle.vote_insert.proofs.Opens.{sound-opened}
 use Rattle.vote_graph.specs.declared.VoteGraph.{VoteGraph}
 use Rattle.vote_graph.specs.declared.Answer.the-variants as answer
-use Rattle.vote_graph.specs.declared.target.Target.{Target}
-use Rattle.vote_graph.specs.declared.target.Target.the-variants as target-is
+use Rattle.vote_graph.specs.declared.named.Target.{Target}
+use Rattle.vote_graph.specs.declared.named.Target.the-variants as target-is
 use Rattle.vote_graph.specs.Shape.{columns, graph-of, is-graph, Standing}
 use Rattle.vote_graph.specs.Target.{target, on-target}
 use Rattle.vote_graph.specs.Calls.{voted, refused, placed, insert}
