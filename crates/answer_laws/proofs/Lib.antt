@@ -4,3 +4,4 @@ pub mod Telling
 pub mod Kept
 pub mod Ghosted
 pub mod Imports
+pub mod Stays

@@ -51,3 +51,19 @@ after k graph equivocations heard cast =
 pub record Follows (k : Setting) (graph : Columns) (cast : ℕ → Vote) : Type 0 where
   pub nodes-stay : (x : ℕ) → T (flag (k .graph .used) x) → T (flag (graph .used) x)
   pub later : (j : ℕ) → Later (k .cast j) (cast j)
+
+-- blocks that are added change the table
+abbrev pub extended : Setting → List ℕ → List ℕ → List ℕ → ℕ → Setting
+extended k parents ids numbers count =
+    record {
+      set = k .set;
+      parents = parents;
+      ids = ids;
+      numbers = numbers;
+      count = count;
+      base = k .base;
+      graph = k .graph;
+      equivocations = k .equivocations;
+      heard = k .heard;
+      cast = k .cast;
+    }
