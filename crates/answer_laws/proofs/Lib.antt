@@ -5,3 +5,4 @@ pub mod Kept
 pub mod Ghosted
 pub mod Imports
 pub mod Stays
+pub mod Opened
