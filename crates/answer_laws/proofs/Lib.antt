@@ -6,3 +6,4 @@ pub mod Ghosted
 pub mod Imports
 pub mod Stays
 pub mod Opened
+pub mod Recorded

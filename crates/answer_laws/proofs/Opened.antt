@@ -6,7 +6,7 @@ use mathlib.Core.Logic.{_≢_}
 use Prim.Native.Nat.{ℕ, _≤_, _<_}
 use native.Mathlib.Omega.{arith}
 use lib.Dec.{T}
-use lib.ListN.{getD, length, replicate, getD-replicate}
+use lib.ListN.{length, replicate, getD-replicate}
 use Rattle.loops.specs.Listing.{times, front}
 use Rattle.loops.proofs.Listings.{times-none}
 use Rattle.loops.proofs.Sums.{weigh-none}
@@ -76,6 +76,7 @@ module _ (set : VoterSet) (parents ids numbers : List ℕ) (count base : ℕ) wh
           small = small;
           shape = shape;
           no-voter = λ phase p h. refl;
+          two-words = refl;
           doubled = λ j. has-none 2 j;
           prevotes-heard = sym (weigh-none (set .count) (voters opening .weight) (λ p. false) (λ i h s. s));
           precommits-heard = sym (weigh-none (set .count) (voters opening .weight) (λ p. false) (λ i h s. s));
