@@ -7,3 +7,4 @@ pub mod Imports
 pub mod Stays
 pub mod Opened
 pub mod Recorded
+pub mod Imported

@@ -29,7 +29,7 @@ use Rattle.answer_laws.specs.Tells.{Follows, with-second, first-vote, se
 
 -- one bit changed
 module _ (cast : ℕ → Vote) (j : ℕ) (v : Vote) where
-  abbrev changed : ℕ → Vote
+  abbrev pub changed : ℕ → Vote
   changed i = cond (eqb i j) v (cast i)
 
   changed-here : (i : ℕ) → i ≡ j → changed i ≡ v
@@ -59,14 +59,14 @@ later-same (once t) = the-same t
 later-same (twice t) = no-third t
 
 module _ (k : Setting) (f : Faithful k) (phase : Phase) (p : ℕ) (in-set : p < k .set .count) where
-  abbrev j : ℕ
+  abbrev pub j : ℕ
   j = bit phase p
 
   few : j < 128
   few = omega (arith, f .good .few, offset-lt phase)
 
   -- the votes of another phase are as before
-  other-phase : (v : Vote) (other : Phase) → offset other ≢ offset phase → (q : ℕ) → changed (k .cast) j v (bit other q) ≡ votes k other q
+  pub other-phase : (v : Vote) (other : Phase) → offset other ≢ offset phase → (q : ℕ) → changed (k .cast) j v (bit other q) ≡ votes k other q
   other-phase v other n q = changed-other (k .cast) j v (bit other q) (λ e. n (omega (arith, offset-lt other, offset-lt phase)))
 
   heard-other : (v : Vote) (other : Phase) → offset other ≢ offset phase
