@@ -8,3 +8,4 @@ pub mod Stays
 pub mod Opened
 pub mod Recorded
 pub mod Imported
+pub mod Extended
