@@ -159,7 +159,7 @@ fn node_or(node: bool, k: usize, over: u8) -> u8
     over
 }
 
-fn laid<'a>(places: &'a [u8; 256], n: usize, marks: &'a [bool; 256]) -> bool
+pub fn laid<'a>(places: &'a [u8; 256], n: usize, marks: &'a [bool; 256]) -> bool
     requires { ⌜ n ≤ 256 ⌝ }
     ensures { λ r. ⌜ r ≡ laid (now (places .entry)) n (now (marks .entry)) ⌝ }
 {

@@ -1,0 +1,4 @@
+pub mod Tidies
+pub mod Marks
+pub mod Sames
+pub mod Joins
