@@ -1,4 +1,7 @@
 // The answers of a round: `update` of round.rs and its two GHOSTs, on lent columns.
+ghost use mathlib.Core.Path.{_≡_};
+ghost use Prim.Native.Nat.{ℕ};
+ghost use Rattle.answers.specs.Update.{lent, scene, Grounded, In-base, start-of, phase-ghost, with-ghost, settled, update};
 use context::Phase;
 use grandpa::PossibleToPrecommit;
 use nodes::Condition;
@@ -21,7 +24,9 @@ pub struct Heard {
     pub precommit: u64,
 }
 
-fn start_of(stored: Found, base: u8) -> u8 {
+fn start_of(stored: Found, base: u8) -> u8
+    ensures { λ r. ⌜ r ≡ start-of stored base ⌝ }
+{
     match stored {
         Found::At(block) => block,
         Found::Nothing => base,
@@ -45,7 +50,10 @@ pub fn phase_ghost<'a>(
     phase: Phase,
     heard: u64,
     stored: Found,
-) -> Found {
+) -> Found
+    requires { ⌜ (Grounded (now parents) base (lent (now used) (now above) (now rows) (now order) listed (now heads) tips)) × In-base (now parents) base stored ⌝ }
+    ensures { λ r. ⌜ r ≡ phase-ghost (scene (now (parents .entry)) base (now (weights .entry)) threshold (lent (now (used .entry)) (now (above .entry)) (now (rows .entry)) (now (order .entry)) listed (now (heads .entry)) tips) equivocations) phase heard stored ⌝ }
+{
     if heard < threshold {
         return stored;
     }
@@ -87,7 +95,10 @@ pub fn with_ghost<'a>(
     phase: Phase,
     heard: Heard,
     answers: Answers,
-) -> Answers {
+) -> Answers
+    requires { ⌜ (Grounded (now parents) base (lent (now used) (now above) (now rows) (now order) listed (now heads) tips)) × In-base (now parents) base (answers .prevote) ⌝ }
+    ensures { λ r. ⌜ r ≡ with-ghost (scene (now (parents .entry)) base (now (weights .entry)) threshold (lent (now (used .entry)) (now (above .entry)) (now (rows .entry)) (now (order .entry)) listed (now (heads .entry)) tips) equivocations) heard phase answers ⌝ }
+{
     match phase {
         Phase::Prevote => {
             let prevote = answers.prevote;
@@ -137,7 +148,10 @@ fn is_completable<'a>(
     possible: Question,
     g: u8,
     estimate: Found,
-) -> bool {
+) -> bool
+    requires { ⌜ ((base : ℕ) × (Grounded (now parents) base (lent (now used) (now above) (now rows) (now order) listed (now heads) tips)) × In-base (now parents) base estimate) ⌝ }
+    ensures { λ r. ⌜ r ≡ settled (now (parents .entry)) (now (weights .entry)) (lent (now (used .entry)) (now (above .entry)) (now (rows .entry)) (now (order .entry)) listed (now (heads .entry)) tips) possible g estimate ⌝ }
+{
     let Found::At(block) = estimate else {
         return false;
     };
@@ -179,7 +193,10 @@ pub fn update<'a>(
     equivocations: [u64; 2],
     heard: Heard,
     answers: Answers,
-) -> Answers {
+) -> Answers
+    requires { ⌜ (Grounded (now parents) base (lent (now used) (now above) (now rows) (now order) listed (now heads) tips)) × In-base (now parents) base (answers .prevote) ⌝ }
+    ensures { λ r. ⌜ r ≡ update (scene (now (parents .entry)) base (now (weights .entry)) threshold (lent (now (used .entry)) (now (above .entry)) (now (rows .entry)) (now (order .entry)) listed (now (heads .entry)) tips) equivocations) total heard answers ⌝ }
+{
     if heard.prevote < threshold {
         return answers;
     }

@@ -1,3 +1,4 @@
 pub mod Finds
 pub mod Padded
+pub mod Blanks
 pub mod Examples

@@ -1,2 +1,3 @@
 pub mod Find
 pub mod Lists
+pub mod Blank

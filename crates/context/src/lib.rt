@@ -5,7 +5,7 @@ ghost use Rattle.weights.specs.Weights.{most};
 ghost use Rattle.context.specs.Votes.{offset, bit, voted, weightOf};
 ghost use Rattle.context.specs.Context.{vote, no-votes, with-node, with-vote, opened, with-equivocator, counts};
 use bitfield::Bit1;
-use voter_set::VoterInfo;
+use voter_info::VoterInfo;
 use voter_set::VoterSet;
 use weights::VoteWeight;
 

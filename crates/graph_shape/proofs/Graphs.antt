@@ -13,14 +13,16 @@ use borrow.Author.Tests.{eq-eqb, lt-ltb}
 use Rattle.loops.specs.Listing.{times, front}
 use Rattle.loops.proofs.Tests.{T-true, true-T, false-not, both, left-of, right-of, in-left, in-right, either, decT}
 use Rattle.loops.proofs.Alls.{all-at, all-intro}
-use Rattle.voter_set.specs.Good.{blank}
+use Rattle.columns.specs.Blank.{blank}
 use Rattle.grandpa.specs.Tree.{below}
 use Rattle.graph.specs.Search.{nearest}
 use Rattle.graph.specs.Graph.{no-bits}
 use Rattle.graph.specs.Shape.{Tip, Nodes}
 use Rattle.nodes.specs.Nodes.{col, flag, row, Falls}
 use Rattle.nodes.specs.Columns.{Columns, Sound}
-use Rattle.graph_shape.specs.Graphed.{counted, inside, others, tied, once-each, laid, childless, rising, zero-bits, bare, graphed, Sized, Clear}
+use Rattle.graph_sweeps.specs.Swept.{inside, tied}
+use Rattle.graph_lists.specs.Listed.{once-each, laid, childless, rising, zero-bits, bare}
+use Rattle.graph_shape.specs.Graphed.{counted, others, graphed, Sized, Clear}
 use Rattle.graph_shape.proofs.Counts.{Counts, counted-says, says-counted}
 use Rattle.graph_shape.proofs.Marks.{unset, struck-length, left-says, says-left, blank-padded, padded-blank, Once, once-says, says-once}
 use Rattle.graph_shape.proofs.Heads.{rising-says, says-rising}

@@ -14,7 +14,7 @@ use Rattle.loops.proofs.Alls.{all-at, all-intro}
 use Rattle.loops.proofs.Listings.{times-none, times-here, times-past, times-more, times-end, times-not-end}
 use Rattle.graph.specs.Shape.{Rising}
 use Rattle.nodes.specs.Nodes.{col}
-use Rattle.graph_shape.specs.Graphed.{rising}
+use Rattle.graph_lists.specs.Listed.{rising}
 use Rattle.graph_shape.proofs.Marks.{front-past, in-front}
 
 module _ (ids : ℕ → ℕ) (x : ℕ) where

@@ -1,7 +1,5 @@
-pub mod Sweeps
 pub mod Counts
 pub mod Marks
 pub mod Heads
 pub mod Tips
 pub mod Graphs
-pub mod Examples

@@ -17,9 +17,9 @@ use Rattle.loops.proofs.Alls.{all-at, all-intro}
 use Rattle.loops.proofs.Listings.{times-none, times-end, times-not-end, some-at, some-intro, length-front}
 use Rattle.columns.specs.Lists.{padded}
 use Rattle.columns.proofs.Padded.{length-padded, get-padded}
-use Rattle.voter_set.specs.Good.{blank}
+use Rattle.columns.specs.Blank.{blank}
 use Rattle.nodes.specs.Nodes.{col, flag}
-use Rattle.graph_shape.specs.Graphed.{struck, unmarked, none-left, fresh, once-each}
+use Rattle.graph_lists.specs.Listed.{struck, unmarked, none-left, fresh, once-each}
 
 pub unset : (marks : List Bool) (x : ℕ) → getD (set marks x false) x false ≡ false
 unset [] x = refl

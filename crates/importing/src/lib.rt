@@ -1,13 +1,17 @@
 // How a vote is taken: `import_prevote` and `import_precommit` of round.rs, on lent columns.
+ghost use mathlib.Core.Path.{_≡_};
+ghost use Rattle.weights.specs.Weights.{plus};
+ghost use Rattle.answers.specs.Update.{lent, scene, told-after, In-base, Grounded};
+ghost use Rattle.importing.specs.Import.{with-heard, import, Ready};
 use answers::Answers;
 use answers::Heard;
-use blocks::Place;
 use context::Phase;
-use nodes::wide;
-use tracker::AddVoteResult;
+use judging::Equivocation;
+use judging::ImportResult;
+use judging::Verdict;
 use tracker::Pair;
-use voter_set::Lookup;
-use voter_set::VoterInfo;
+use weights::VoteWeight;
+use weights::VoterWeight;
 
 // What a vote changes beside columns: nodes listed, heads, entries of history, equivocators' bits, heard weights, answers.
 pub struct Standing {
@@ -19,142 +23,56 @@ pub struct Standing {
     pub answers: Answers,
 }
 
-// Both pairs of an equivocator in arrival order.
-pub struct Equivocation {
-    pub number: u64,
-    pub identity: u32,
-    pub first: Pair,
-    pub second: Pair,
-}
-
-// `ImportResult`: a signer outside the set; a first vote; a duplicate; an equivocation; a third pair; a refusal.
-pub enum ImportResult {
-    Outside,
-    Counted,
-    Duplicated,
-    Equivocated(Equivocation),
-    Ignored,
-    Refused(u8),
-}
-
 pub struct Step {
     pub answer: ImportResult,
     pub standing: Standing,
 }
 
-// What is to be done with a vote: nothing, with the answer; a first vote by a voter for the block at a place; the second of a
-// voter, with the first beside it.
-pub enum Verdict {
-    Nothing(ImportResult),
-    First(VoterInfo, u8),
-    Second(VoterInfo, Pair),
+fn added(heard: u64, weight: VoterWeight) -> u64
+    ensures { λ r. ⌜ r ≡ plus heard (weight .0) ⌝ }
+{
+    let before = VoteWeight::from(heard);
+    let sum = before.add_voter(weight);
+    sum.0
 }
 
-// A first vote's target: refusals 11, 12 and 13, in that order.
-pub fn judge_first<'a>(
-    ids: &'a [u32; 256],
-    heights: &'a [u32; 256],
-    parents: &'a [u8; 256],
-    blocks: usize,
-    base: u8,
-    info: VoterInfo,
-    pair: Pair,
-) -> Verdict {
-    let Place::At(block) = blocks::find(ids, blocks, pair.target) else {
-        return Verdict::Nothing(ImportResult::Refused(11));
-    };
-    if heights[wide(block)] != pair.number {
-        return Verdict::Nothing(ImportResult::Refused(12));
-    }
-    if !nodes::reaches(parents, base, block) {
-        return Verdict::Nothing(ImportResult::Refused(13));
-    }
-    Verdict::First(info, block)
-}
-
-fn index(place: usize, phase: Phase) -> usize {
-    match phase {
-        Phase::Prevote => 2 * place,
-        Phase::Precommit => 2 * place + 1,
-    }
-}
-
-// Rules 1 to 5.
-pub fn judge<'a>(
-    voters: &'a [u32; 64],
-    weights: &'a [u64; 64],
-    size: usize,
-    ids: &'a [u32; 256],
-    heights: &'a [u32; 256],
-    parents: &'a [u8; 256],
-    blocks: usize,
-    base: u8,
-    times: &'a [u8; 128],
-    places: &'a [u8; 128],
-    signatures: &'a [u64; 128],
-    targets: &'a [u32; 128],
-    numbers: &'a [u32; 128],
-    seconds: &'a [u64; 128],
-    phase: Phase,
-    signer: u32,
-    pair: Pair,
-) -> Verdict {
-    let Lookup::Voter(info) = voter_set::look_up(voters, weights, size, signer) else {
-        return Verdict::Nothing(ImportResult::Outside);
-    };
-    let at = index(info.position, phase);
-    let recorded = tracker::recorded(
-        times,
-        places,
-        signatures,
-        targets,
-        numbers,
-        seconds,
-        ids,
-        heights,
-        at,
-    );
-    match tracker::add_vote(recorded, pair) {
-        AddVoteResult::Single => judge_first(ids, heights, parents, blocks, base, info, pair),
-        AddVoteResult::Duplicated => Verdict::Nothing(ImportResult::Duplicated),
-        AddVoteResult::Equivocated(first) => Verdict::Second(info, first),
-        AddVoteResult::Ignored => Verdict::Nothing(ImportResult::Ignored),
-    }
-}
-
-fn with_heard(heard: Heard, phase: Phase, weight: u64) -> Heard {
+fn with_heard(heard: Heard, phase: Phase, weight: VoterWeight) -> Heard
+    ensures { λ r. ⌜ r ≡ with-heard phase (weight .0) heard ⌝ }
+{
     match phase {
         Phase::Prevote => Heard {
-            prevote: heard.prevote + weight,
+            prevote: added(heard.prevote, weight),
             precommit: heard.precommit,
         },
         Phase::Precommit => Heard {
             prevote: heard.prevote,
-            precommit: heard.precommit + weight,
+            precommit: added(heard.precommit, weight),
         },
     }
 }
 
-// The answers after a vote was recorded. The prevote-GHOST is worked out again in a prevote import only.
+// The answers after a vote was recorded.
 fn updated<'a>(
     parents: &'a [u8; 256],
     used: &'a [bool; 256],
     above: &'a [u8; 256],
     rows: &'a [[u64; 2]; 256],
     order: &'a [u8; 256],
+    listed: usize,
     heads: &'a [u8; 256],
+    tips: usize,
     weights: &'a [u64; 64],
     base: u8,
     total: u64,
     threshold: u64,
+    equivocations: [u64; 2],
     phase: Phase,
-    standing: Standing,
-) -> Standing {
-    let listed = standing.listed;
-    let tips = standing.tips;
-    let equivocations = standing.equivocations;
-    let heard = standing.heard;
-    let stored = standing.answers;
+    heard: Heard,
+    stored: Answers,
+) -> Answers
+    requires { ⌜ (Grounded (now parents) base (lent (now used) (now above) (now rows) (now order) listed (now heads) tips)) × In-base (now parents) base (stored .prevote) ⌝ }
+    ensures { λ r. ⌜ r ≡ told-after (scene (now (parents .entry)) base (now (weights .entry)) threshold (lent (now (used .entry)) (now (above .entry)) (now (rows .entry)) (now (order .entry)) listed (now (heads .entry)) tips) equivocations) total heard phase stored ⌝ }
+{
     let renewed = answers::with_ghost(
         parents,
         used,
@@ -172,7 +90,7 @@ fn updated<'a>(
         heard,
         stored,
     );
-    let answers = answers::update(
+    answers::update(
         parents,
         used,
         above,
@@ -188,27 +106,20 @@ fn updated<'a>(
         equivocations,
         heard,
         renewed,
-    );
-    Standing {
-        listed,
-        tips,
-        count: standing.count,
-        equivocations,
-        heard,
-        answers,
-    }
+    )
 }
 
-pub fn import(
-    voters: &[u32; 64],
-    weights: &[u64; 64],
+// A vote, taken by the verdict on it.
+pub fn import<'a>(
+    voters: &'a [u32; 64],
+    weights: &'a [u64; 64],
     size: usize,
     total: u64,
     threshold: u64,
-    round: u64,
-    ids: &[u32; 256],
-    heights: &[u32; 256],
-    parents: &[u8; 256],
+    number: u64,
+    ids: &'a [u32; 256],
+    heights: &'a [u32; 256],
+    parents: &'a [u8; 256],
     blocks: usize,
     base: u8,
     used: &mut [bool; 256],
@@ -227,8 +138,11 @@ pub fn import(
     phase: Phase,
     signer: u32,
     pair: Pair,
-) -> Step {
-    let verdict = judge(
+) -> Step
+    requires { ⌜ Ready (record { number = number; voters = record { ids = now voters; weights = now weights; count = size; threshold = threshold; total = total }; table = record { ids = now ids; numbers = now heights; parents = now parents; count = blocks }; base = base }) (record { graph = record { used = now used; above = now above; rows = now rows; order = now order; listed = standing .listed; heads = now heads; tips = standing .tips }; votes = record { times = now times; places = now places; signatures = now signatures; targets = now targets; numbers = now numbers; seconds = now seconds }; entries = now entries; count = standing .count; equivocations = standing .equivocations; heard = standing .heard; answers = standing .answers }) ⌝ }
+    ensures { λ r. ⌜ record { answer = r .answer; held = record { graph = record { used = now (used .exit); above = now (above .exit); rows = now (rows .exit); order = now (order .exit); listed = r .standing .listed; heads = now (heads .exit); tips = r .standing .tips }; votes = record { times = now (times .exit); places = now (places .exit); signatures = now (signatures .exit); targets = now (targets .exit); numbers = now (numbers .exit); seconds = now (seconds .exit) }; entries = now (entries .exit); count = r .standing .count; equivocations = r .standing .equivocations; heard = r .standing .heard; answers = r .standing .answers } } ≡ import (record { number = number; voters = record { ids = now (voters .entry); weights = now (weights .entry); count = size; threshold = threshold; total = total }; table = record { ids = now (ids .entry); numbers = now (heights .entry); parents = now (parents .entry); count = blocks }; base = base }) phase signer pair (record { graph = record { used = now (used .entry); above = now (above .entry); rows = now (rows .entry); order = now (order .entry); listed = standing .listed; heads = now (heads .entry); tips = standing .tips }; votes = record { times = now (times .entry); places = now (places .entry); signatures = now (signatures .entry); targets = now (targets .entry); numbers = now (numbers .entry); seconds = now (seconds .entry) }; entries = now (entries .entry); count = standing .count; equivocations = standing .equivocations; heard = standing .heard; answers = standing .answers }) ⌝ }
+{
+    let verdict = judging::judge(
         voters,
         weights,
         size,
@@ -254,11 +168,12 @@ pub fn import(
     match verdict {
         Verdict::Nothing(answer) => Step { answer, standing },
         Verdict::First(info, block) => {
-            let at = index(info.position, phase);
+            let at = judging::index(info.position, phase);
+            let weight = info.weight;
             times[at] = 1;
             places[at] = block;
             signatures[at] = pair.signature;
-            entries[count] = (2 * at) as u8;
+            entries[count] = (at * 2) as u8;
             let counts = vote_insert::insert(
                 parents,
                 ids,
@@ -273,74 +188,83 @@ pub fn import(
                 block,
                 at,
             );
-            let weight = info.weight;
-            let more = with_heard(heard, phase, weight.get());
-            let next = Standing {
-                listed: counts.listed,
-                tips: counts.tips,
-                count: count + 1,
-                equivocations,
-                heard: more,
-                answers: stored,
-            };
-            let done = updated(
+            let listed = counts.listed;
+            let tips = counts.tips;
+            let more = with_heard(heard, phase, weight);
+            let answers = updated(
                 parents,
                 used,
                 above,
                 rows,
                 order,
+                listed,
                 heads,
+                tips,
                 weights,
                 base,
                 total,
                 threshold,
+                equivocations,
                 phase,
-                next,
+                more,
+                stored,
             );
             Step {
                 answer: ImportResult::Counted,
-                standing: done,
+                standing: Standing {
+                    listed,
+                    tips,
+                    count: count + 1,
+                    equivocations,
+                    heard: more,
+                    answers,
+                },
             }
         }
         Verdict::Second(info, first) => {
-            let at = index(info.position, phase);
+            let at = judging::index(info.position, phase);
             times[at] = 2;
             targets[at] = pair.target;
             numbers[at] = pair.number;
             seconds[at] = pair.signature;
-            entries[count] = (2 * at + 1) as u8;
+            entries[count] = (at * 2 + 1) as u8;
+            let listed = standing.listed;
+            let tips = standing.tips;
             let more = bitfield::set_bit(equivocations, at);
-            let next = Standing {
-                listed: standing.listed,
-                tips: standing.tips,
-                count: count + 1,
-                equivocations: more,
-                heard,
-                answers: stored,
-            };
-            let done = updated(
+            let answers = updated(
                 parents,
                 used,
                 above,
                 rows,
                 order,
+                listed,
                 heads,
+                tips,
                 weights,
                 base,
                 total,
                 threshold,
+                more,
                 phase,
-                next,
+                heard,
+                stored,
             );
             let told = Equivocation {
-                number: round,
+                number,
                 identity: signer,
                 first,
                 second: pair,
             };
             Step {
                 answer: ImportResult::Equivocated(told),
-                standing: done,
+                standing: Standing {
+                    listed,
+                    tips,
+                    count: count + 1,
+                    equivocations: more,
+                    heard,
+                    answers,
+                },
             }
         }
     }

@@ -1,4 +1,2 @@
-pub mod Climbs
 pub mod Lists
-pub mod Search
 pub mod Tied

@@ -5,10 +5,11 @@ use mathlib.Core.Path.{_≡_, refl, sym, ap, _∙_}
 use Prim.Native.Nat.{ℕ, zero, suc, _+_, _≤_, _<_}
 use native.Mathlib.Numerals.{add-one}
 use native.Mathlib.Omega.{arith}
-use lib.ListN.{getD, set, length, length-append, replicate}
+use lib.ListN.{getD, set, length, take, length-append, replicate}
+use lib.Seq.{take-suc, take-length}
 use Rattle.loops.specs.Listing.{front, keep}
 use Rattle.columns.specs.Lists.{padded}
-use Rattle.columns.proofs.Padded.{next-padded}
+use Rattle.columns.proofs.Padded.{get-padded, next-padded}
 use Rattle.nodes.specs.declared.Places.{Places}
 use Rattle.nodes.specs.Nodes.{placed}
 use Rattle.loops.proofs.Listings.{keep-append, length-front}
@@ -72,3 +73,26 @@ module _ (p : ℕ → Bool) (xs : List ℕ) where
   pub laid-end : (n m : ℕ) (places : List ℕ) (k : ℕ) → Laid p xs k places m → k ≡ n → record { places = places; count = m } ≡ placed (keep p (front n xs))
   unfolding placed
   laid-end n m places k l e = rw (l .places-are, l .count-is, e)
+
+-- a column read as a list, and back
+front-take : (n : ℕ) (l : List ℕ) → n ≤ length l → front n l ≡ take n l
+unfolding front
+front-take zero l h = refl
+front-take (suc n) l h = rw (front-take n l (omega arith)) (sym (take-suc l n 0 (omega arith)))
+
+front-cong : (n : ℕ) (xs ys : List ℕ) → ((k : ℕ) → getD xs k 0 ≡ getD ys k 0) → front n xs ≡ front n ys
+unfolding front
+front-cong zero xs ys h = refl
+front-cong (suc n) xs ys h = rw (front-cong n xs ys h, h n)
+
+pub front-padded : (l : List ℕ) → front (length l) (padded 256 l) ≡ l
+front-padded l = front-cong (length l) (padded 256 l) l (get-padded 256 l) ∙ front-take (length l) l (omega arith) ∙ take-length l
+
+-- a list comes back from the column and the count that hold it
+pub placed-front : (m : Places) (l : List ℕ) → m ≡ placed l → front (m .count) (m .places) ≡ l
+unfolding placed
+placed-front m l e = ap (λ (q : Places). front (q .count) (q .places)) e ∙ front-padded l
+
+pub placed-count : (m : Places) (l : List ℕ) → m ≡ placed l → m .count ≡ length l
+unfolding placed
+placed-count m l e = ap (λ (q : Places). q .count) e

@@ -1,5 +1,5 @@
 -- The search and the listing by the nodes above are those of the graph that sound columns hold.
-use mathlib.Core.Bool.{Bool, true, false, cond, not}
+use mathlib.Core.Bool.{Bool, cond, not}
 use mathlib.Core.List.{List, [], _∷_}
 use mathlib.Core.Path.{_≡_, refl, sym, ap, subst, _∙_}
 use mathlib.Core.Logic.{_≢_, _⊎_, inl, inr}
@@ -14,7 +14,6 @@ use Rattle.grandpa.specs.Tree.{below}
 use Rattle.grandpa.proofs.Trees.{below-refl, below-up, below-trans, below-le, below-line, below-step}
 use Rattle.graph.specs.Search.{hold, note, containing, nearest}
 use Rattle.graph.specs.Graph.{children}
-use Rattle.graph.specs.Shape.{Holds}
 use Rattle.graph.proofs.Climbs.{Told, hold-says, holds-same, Nearest, nearest-says}
 use Rattle.nodes.specs.Nodes.{col, flag, held-from, held, found, listed-under}
 use Rattle.nodes.specs.Columns.{Columns, view, Sound}

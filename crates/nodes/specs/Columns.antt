@@ -1,13 +1,13 @@
 -- The vote graph in columns. Document 01, "Forms that must change": arrays with counts, kept in the Rust's order; "Shape
 -- rules": every node but the base listed once, under the nearest node above it; heads the nodes that list none.
-use mathlib.Core.Bool.{Bool, cond, not, _&&_}
-use mathlib.Core.List.{List, [], _∷_}
+use mathlib.Core.Bool.{Bool}
+use mathlib.Core.List.{List}
 use mathlib.Core.Option.{Option, none, some}
 use mathlib.Core.Path.{_≡_}
 use mathlib.Core.Logic.{_≢_}
 use Prim.Native.Nat.{ℕ, _≤_, _<_}
-use lib.Dec.{T, eqb}
-use lib.ListN.{getD, length}
+use lib.Dec.{T}
+use lib.ListN.{length}
 use Rattle.loops.specs.Listing.{front}
 use Rattle.columns.specs.Lists.{padded}
 use Rattle.graph.specs.Search.{nearest}

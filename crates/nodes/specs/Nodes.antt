@@ -1,34 +1,21 @@
 -- Vote-nodes in columns, and what is asked of their bits. Document 01, "Forms that must change": arrays with counts;
 -- conditions are an enum of the two questions, with their numbers beside.
-use mathlib.Core.Bool.{Bool, false, cond, _||_}
-use mathlib.Core.List.{List, [], _∷_}
-use Prim.Native.Nat.{ℕ, zero, suc, pred, _≤_}
-use lib.Dec.{leb, ltb, eqb}
-use lib.ListN.{getD, length}
+use mathlib.Core.Bool.{Bool, cond, _||_}
+use mathlib.Core.List.{List, []}
+use Prim.Native.Nat.{ℕ, zero, suc}
+use lib.Dec.{leb, eqb}
+use lib.ListN.{length}
 use Rattle.loops.specs.Listing.{keep, fold}
 use Rattle.columns.specs.Lists.{padded}
 use Rattle.grandpa.specs.Tree.{below}
 use Rattle.grandpa.specs.Possible.{enough}
 use Rattle.context.specs.Votes.{voted, weightOf}
 use Rattle.graph.specs.Search.{note}
+pub use Rattle.climbs.specs.Places.{col, flag, row, Falls}
 use Rattle.nodes.specs.declared.Places.{Places}
 use Rattle.nodes.specs.declared.Condition.{Condition}
 use Rattle.nodes.specs.declared.Condition.the-variants.{AtLeast, Possible}
 use Rattle.nodes.specs.declared.Question.{Question}
-
--- columns as functions of a place
-abbrev pub col : List ℕ → ℕ → ℕ
-col xs k = getD xs k 0
-
-abbrev pub flag : List Bool → ℕ → Bool
-flag xs k = getD xs k false
-
-abbrev pub row : List (List ℕ) → ℕ → List ℕ
-row xs k = getD xs k []
-
--- what a column gives for a place is earlier
-abbrev pub Falls : List ℕ → Type 0
-Falls xs = (k : ℕ) → getD xs k 0 ≤ pred k
 
 -- a list of places as the code holds it
 unfoldable pub placed : List ℕ → Places

@@ -1,15 +1,13 @@
-// Vote-nodes on lent columns: climbs, the search over heads, joined bits, and the questions that are asked of them.
-// A node is the place of its block. Places fit a byte, and a byte indexes every column.
+// Vote-nodes on lent columns: lists of them, joined bits, and the questions that are asked of them. A node is the place of
+// its block.
 ghost use mathlib.Core.Path.{_≡_};
-ghost use mathlib.Core.List.{[]};
-ghost use Prim.Native.Nat.{ℕ, pred, _≤_, _<_};
-ghost use lib.ListN.{getD, length};
+ghost use Prim.Native.Nat.{_≤_, _<_};
 ghost use Rattle.loops.specs.Listing.{front, keep};
-ghost use Rattle.grandpa.specs.Tree.{below};
-ghost use Rattle.graph.specs.Search.{nearest};
 ghost use Rattle.graph.specs.Graph.{join-of};
-ghost use Rattle.graph.specs.Ghost.{under, towards};
-ghost use Rattle.nodes.specs.Nodes.{col, flag, row, Falls, placed, found, passes, listed-under};
+ghost use Rattle.graph.specs.Ghost.{under};
+ghost use Rattle.climbs.specs.Places.{col, row, Falls};
+ghost use Rattle.nodes.specs.Nodes.{placed, passes, listed-under};
+use climbs::wide;
 use context::Phase;
 use grandpa::PossibleToPrecommit;
 
@@ -36,84 +34,6 @@ pub struct Question {
     pub phase: Phase,
     pub condition: Condition,
     pub equivocations: [u64; 2],
-}
-
-// A place as an index.
-pub fn wide(place: u8) -> usize
-    ensures { λ r. ⌜ (r ≡ place) × (r < 256) ⌝ }
-{
-    place as usize
-}
-
-// Whether `from` is `block` or below it. Parents are earlier, so that the climb ends at the first place not past `block`.
-pub fn reaches(parents: &[u8; 256], block: u8, from: u8) -> bool
-    requires { ⌜ Falls (now parents) ⌝ }
-    ensures { λ r. ⌜ r ≡ below (col (now (parents .entry))) block from ⌝ }
-{
-    let wanted = wide(block);
-    let mut at = wide(from);
-    while wanted < at {
-        at = wide(parents[at]);
-    }
-    at == wanted
-}
-
-// The nearest node at or above a block.
-pub fn nearest<'a>(parents: &'a [u8; 256], used: &'a [bool; 256], block: u8) -> u8
-    requires { ⌜ Falls (now parents) ⌝ }
-    ensures { λ r. ⌜ r ≡ nearest (col (now (parents .entry))) (flag (now (used .entry))) block ⌝ }
-{
-    let mut at = block;
-    while 0 < at {
-        let k = wide(at);
-        if used[k] {
-            return at;
-        }
-        at = parents[k];
-    }
-    at
-}
-
-// The nodes whose edge holds a block that has none, by way of the node above each. What an earlier head settled is not
-// climbed again.
-pub fn find_containing_nodes<'a>(
-    parents: &'a [u8; 256],
-    above: &'a [u8; 256],
-    heads: &'a [u8; 256],
-    tips: usize,
-    block: u8,
-) -> Places
-    requires { ⌜ (Falls (now parents)) × (Falls (now above)) × (tips ≤ 256) ⌝ }
-    ensures { λ r. ⌜ r ≡ placed (found (col (now (parents .entry))) (col (now (above .entry))) (front tips (now (heads .entry))) block) ⌝ }
-{
-    let mut visited = [false; 256];
-    let mut places = [0u8; 256];
-    let mut count = 0;
-    'next: for k in 0..tips {
-        let mut node = heads[k];
-        loop {
-            if node <= block {
-                continue 'next;
-            }
-            let at = wide(node);
-            if visited[at] {
-                continue 'next;
-            }
-            visited[at] = true;
-            let over = above[at];
-            if block < over {
-                node = over;
-                continue;
-            }
-            if !reaches(parents, block, node) {
-                continue 'next;
-            }
-            places[count] = node;
-            count = count + 1;
-            continue 'next;
-        }
-    }
-    Places { places, count }
 }
 
 // The joined bits of the nodes at places.
@@ -195,21 +115,5 @@ fn is_under(parents: &[u8; 256], block: u8, place: u8) -> bool
     if place == block {
         return false;
     }
-    reaches(parents, block, place)
-}
-
-// The child of a block towards a block strictly below it.
-pub fn towards(parents: &[u8; 256], block: u8, from: u8) -> u8
-    requires { ⌜ Falls (now parents) ⌝ }
-    ensures { λ r. ⌜ r ≡ towards (col (now (parents .entry))) block from ⌝ }
-{
-    let mut at = from;
-    while 0 < at {
-        let over = parents[wide(at)];
-        if over == block {
-            return at;
-        }
-        at = over;
-    }
-    at
+    climbs::reaches(parents, block, place)
 }

@@ -3,8 +3,8 @@ use context::Phase;
 use context::Vote;
 use context::VoteNode;
 use libc::STDOUT_FILENO;
+use voter_info::Lookup;
 use voter_set::Answer;
-use voter_set::Lookup;
 use voter_set::Nth;
 use voter_set::VoterSet;
 

@@ -83,7 +83,7 @@ fn first_pair<'a>(
     requires { ⌜ at < 128 ⌝ }
     ensures { λ r. ⌜ r ≡ first-pair (now (places .entry)) (now (signatures .entry)) (now (ids .entry)) (now (heights .entry)) at ⌝ }
 {
-    let block = nodes::wide(places[at]);
+    let block = climbs::wide(places[at]);
     Pair {
         target: ids[block],
         number: heights[block],

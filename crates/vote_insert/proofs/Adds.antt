@@ -1,12 +1,11 @@
 -- A new node in columns, from what its parts give.
 use mathlib.Core.Bool.{true, false}
-use mathlib.Core.List.{List, [], _∷_, _++_, append-assoc}
+use mathlib.Core.List.{List, [], _∷_}
 use mathlib.Core.Path.{_≡_, refl, sym, ap, _∙_}
-use Prim.Native.Nat.{ℕ, _+_, _≤_, _<_}
+use Prim.Native.Nat.{ℕ, _≤_, _<_}
 use native.Mathlib.Omega.{arith}
-use lib.Dec.{eqb}
-use lib.ListN.{set, length, length-append}
-use Rattle.loops.specs.Listing.{times, keep, front}
+use lib.ListN.{set, length}
+use Rattle.loops.specs.Listing.{front}
 use Rattle.loops.proofs.Listings.{length-front}
 use Rattle.columns.specs.Lists.{padded}
 use Rattle.graph.specs.Search.{nearest}
@@ -14,35 +13,11 @@ use Rattle.graph.specs.Graph.{join-of, enter, relist, rehead}
 use Rattle.nodes.specs.declared.Places.{Places}
 use Rattle.nodes.specs.Nodes.{col, flag, row, placed, found}
 use Rattle.nodes.specs.Columns.{Columns}
-use Rattle.vote_insert.specs.Insert.{set-all, listing, Packed, shifted, without, added, marked, with-rows, inserted, Addable}
-use Rattle.vote_insert.proofs.Lists.{count-is, listing-is, packed, shifted-end, length-enter}
-
--- the new listing
-module _ (order ms : List ℕ) (t : ℕ) where
-  abbrev stays : List ℕ
-  stays = keep (λ x. eqb (times x ms) 0) order
-
-  length-relist : length (relist t ms order) ≡ length stays + length ms + 1
-  unfolding relist
-  length-relist = omega (arith, length-append stays (ms ++ (t ∷ [])), length-append ms (t ∷ []))
-
-  module _ (p : Places) (ep : p ≡ placed stays) (fits : length (relist t ms order) ≤ 256) where
-    pub stays-room : Packed p × (p .count + length ms ≤ 256)
-    stays-room = (packed p stays ep, omega (arith, count-is p stays ep, length-relist))
-
-    module _ (q : Places) (eq : q ≡ placed (listing p ++ ms)) where
-      pub members-room : Packed q × (q .count < 256)
-      members-room = (
-        packed q (listing p ++ ms) eq,
-        omega (arith, count-is q (listing p ++ ms) eq, length-append (listing p) ms, ap length (listing-is p stays ep), length-relist),
-      )
-
-      pub relisted : (r : Places) → r ≡ shifted q (q .count) t → r ≡ placed (relist t ms order)
-      unfolding relist
-      relisted r e =
-          e ∙ shifted-end q t (members-room .0) (members-room .1)
-          ∙ ap (λ (l : List ℕ). placed (l ++ (t ∷ []))) (listing-is q (listing p ++ ms) eq ∙ ap (λ (l : List ℕ). l ++ ms) (listing-is p stays ep))
-          ∙ ap placed (append-assoc stays ms (t ∷ []))
+use Rattle.vote_lists.specs.Placing.{listing, without}
+use Rattle.vote_insert.specs.Insert.{set-all, added, marked, with-rows, inserted, Addable}
+use Rattle.nodes.proofs.Lists.{placed-front, placed-count}
+use Rattle.vote_lists.proofs.Lists.{length-enter}
+use Rattle.vote_lists.proofs.Relists.{length-relist}
 
 -- the new heads
 rehead-some : (ids : ℕ → ℕ) (t above : ℕ) (ms heads : List ℕ) → 0 < length ms → rehead ids t ms above heads ≡ heads
@@ -64,7 +39,7 @@ module _ (parents ids : List ℕ) (t : ℕ) (g : Columns) (room : Addable parent
   ms = found (col parents) (col (g .above)) (front (g .tips) (g .heads)) t
 
   is : listing m ≡ ms
-  is = listing-is m ms em
+  is = placed-front m ms em
 
   abbrev over : ℕ
   over = nearest (col parents) (flag (g .used)) (col parents t)
@@ -74,7 +49,7 @@ module _ (parents ids : List ℕ) (t : ℕ) (g : Columns) (room : Addable parent
   list-fits = room .list-fits
 
   pub few : m .count ≤ 256
-  few = omega (arith, count-is m ms em, list-fits, length-relist (front (g .listed) (g .order)) ms t)
+  few = omega (arith, placed-count m ms em, list-fits, length-relist (front (g .listed) (g .order)) ms t)
 
   pub list-room : (g .listed ≤ 256) × (m .count ≤ 256) × (length (relist t (listing m) (front (g .listed) (g .order))) ≤ 256)
   list-room = (room .listed-fits, few, rw is list-fits)
@@ -88,7 +63,7 @@ module _ (parents ids : List ℕ) (t : ℕ) (g : Columns) (room : Addable parent
           arith,
           length-enter (col ids) t (without over (front (g .tips) (g .heads))),
           room .heads-fit,
-          ap length (rehead-none (col ids) t over ms (front (g .tips) (g .heads)) (omega (arith, count-is m ms em))),
+          ap length (rehead-none (col ids) t over ms (front (g .tips) (g .heads)) (omega (arith, placed-count m ms em))),
         )),
   )
 
@@ -120,7 +95,7 @@ module _ (parents ids : List ℕ) (t : ℕ) (g : Columns) (room : Addable parent
     unfolding added
     added-some h =
         let e : rehead (col ids) t ms over (front (g .tips) (g .heads)) ≡ front (g .tips) (g .heads) =
-        rehead-some (col ids) t over ms (front (g .tips) (g .heads)) (omega (arith, count-is m ms em)) in
+        rehead-some (col ids) t over ms (front (g .tips) (g .heads)) (omega (arith, placed-count m ms em)) in
         with-heads (g .heads) (g .tips) (rw e (room .heads-clear)) (rw e (sym (length-front (g .tips) (g .heads))))
 
     pub added-none : m .count ≤ 0 → (next : Places) → next ≡ placed (enter (col ids) t (without a (front (g .tips) (g .heads))))
@@ -130,7 +105,7 @@ module _ (parents ids : List ℕ) (t : ℕ) (g : Columns) (room : Addable parent
     unfolding added placed
     added-none h next en =
         let e : rehead (col ids) t ms over (front (g .tips) (g .heads)) ≡ enter (col ids) t (without over (front (g .tips) (g .heads))) =
-        rehead-none (col ids) t over ms (front (g .tips) (g .heads)) (omega (arith, count-is m ms em)) in
+        rehead-none (col ids) t over ms (front (g .tips) (g .heads)) (omega (arith, placed-count m ms em)) in
         with-heads (next .places) (next .count)
         (rw e (ap (λ (p : Places). p .places) en ∙ rw is-over)) (rw e (ap (λ (p : Places). p .count) en ∙ rw is-over))
 

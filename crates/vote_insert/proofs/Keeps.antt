@@ -29,8 +29,10 @@ use Rattle.graph.proofs.Listed.{near-member, near-other, near-new}
 use Rattle.nodes.specs.Nodes.{col, flag, row, Falls, found}
 use Rattle.nodes.specs.Columns.{Columns, view, Sound}
 use Rattle.nodes.proofs.Tied.{found-is}
-use Rattle.vote_insert.specs.Insert.{set-all, without, added, marked, with-rows, inserted, Insertable}
-use Rattle.vote_insert.proofs.Lists.{or-true, front-padded}
+use Rattle.vote_insert.specs.Insert.{set-all, added, marked, with-rows, inserted, Insertable}
+use Rattle.nodes.proofs.Lists.{front-padded}
+use Rattle.vote_lists.specs.Placing.{without}
+use Rattle.vote_lists.proofs.Lists.{or-true}
 use Rattle.vote_insert.proofs.Marks.{length-marked, marked-bits}
 
 -- different places below n are at most n
@@ -191,6 +193,15 @@ module _ (parents ids : List ℕ) (base count t : ℕ) (in-base : T (below (col 
 
     above-other : (x : ℕ) → x ≢ t → times x ms ≡ 0 → col (set (set-all (g .above) ms t) t over) x ≡ col (g .above) x
     above-other x n h = getD-set-other (set-all (g .above) ms t) t x over 0 n ∙ set-all-other t x ms (g .above) h
+
+    -- the node above stays, but for t and the members
+    pub above-stays : (x : ℕ) → x ≢ t → (Holds up used t x → ⊥) → col (added parents ids t g .above) x ≡ col (g .above) x
+    unfolding added
+    above-stays x n h = go (ℕ-discrete (times x ms) 0)
+      where
+        go : Dec (times x ms ≡ 0) → col (set (set-all (g .above) ms t) t over) x ≡ col (g .above) x
+        go (yes z) = above-other x n z
+        go (no z) = absurd (h (member x (omega arith)))
 
     falls-added : Falls (set (set-all (g .above) ms t) t over)
     falls-added k = go (ℕ-discrete k t) (ℕ-discrete (times k ms) 0)

@@ -1,4 +1,4 @@
-pub mod Lists
+pub mod Sets
 pub mod Marks
 pub mod Adds
 pub mod Keeps

@@ -1,19 +1,17 @@
 -- `insert` of vote_graph.rs on columns. proofs/ says that it is `insert` of the graph that they hold, and that it keeps the
 -- columns sound.
-use mathlib.Core.Bool.{Bool, true, false, cond, not}
+use mathlib.Core.Bool.{true, false, cond}
 use mathlib.Core.List.{List, [], _∷_}
 use mathlib.Core.Path.{_≡_}
-use Prim.Native.Nat.{ℕ, zero, suc, _+_, _-_, _≤_}
-use lib.Dec.{leb, ltb, eqb}
+use Prim.Native.Nat.{ℕ, zero, suc, _≤_}
+use lib.Dec.{leb}
 use lib.ListN.{set, length, replicate}
-use Rattle.loops.specs.Loop.{first}
-use Rattle.loops.specs.Listing.{front, keep, fold}
-use Rattle.columns.specs.Lists.{padded, shift}
+use Rattle.loops.specs.Listing.{front, fold}
+use Rattle.columns.specs.Lists.{padded}
 use Rattle.bitfield.specs.Bits.{put}
 use Rattle.graph.specs.Search.{nearest}
 use Rattle.graph.specs.Graph.{join-of, relist, rehead}
-use Rattle.nodes.specs.declared.Places.{Places}
-use Rattle.nodes.specs.Nodes.{col, flag, row, Falls, placed, found}
+use Rattle.nodes.specs.Nodes.{col, flag, row, Falls, found}
 use Rattle.nodes.specs.Columns.{Columns}
 
 -- `VoteGraph::new`: the base alone
@@ -29,32 +27,9 @@ opened base =
       tips = 1;
     }
 
--- marks at some places: whether `introduce_branch` moves a node is then one look
-unfoldable pub flags : List ℕ → List Bool
-flags places = fold (λ p v. set v p true) places (replicate 256 false)
-
 -- x at each of some places
 unfoldable pub set-all : List ℕ → List ℕ → ℕ → List ℕ
 set-all xs places x = fold (λ p v. set v p x) places xs
-
--- the list in places with a count, and that nothing else is there
-abbrev pub listing : Places → List ℕ
-listing p = front (p .count) (p .places)
-
-abbrev pub Packed : Places → Type 0
-Packed p = p ≡ placed (listing p)
-
--- the places but one, as `heads.remove`
-abbrev pub without : ℕ → List ℕ → List ℕ
-without x l = keep (λ y. not (eqb y x)) l
-
--- where `heads.insert` puts t among places by rising id: before the first of a higher id
-unfoldable pub slot : (ℕ → ℕ) → ℕ → List ℕ → ℕ → ℕ
-slot ids t places count = first (λ k. ltb (ids t) (ids (col places k))) (λ k. k) count count 0
-
--- x at a place, what stands there and after it one place further
-abbrev pub shifted : Places → ℕ → ℕ → Places
-shifted p k x = record { places = shift (p .count + 1 - k) k x (p .places); count = p .count + 1 }
 
 -- a node at t, which has none: `append` where the search met no members, else `introduce_branch`
 unfoldable pub added : List ℕ → List ℕ → ℕ → Columns → Columns

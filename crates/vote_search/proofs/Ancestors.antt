@@ -25,7 +25,8 @@ use Rattle.nodes.specs.Nodes.{col, flag, row, placed, found}
 use Rattle.nodes.specs.Columns.{Columns, Sound, view}
 use Rattle.vote_search.specs.declared.Tally.{Tally}
 use Rattle.vote_search.specs.Searches.{tallied, unlisted}
-use Rattle.vote_search.proofs.Turns.{not-swap, placed-front, placed-count}
+use Rattle.nodes.proofs.Lists.{placed-front, placed-count}
+use Rattle.vote_merge.proofs.Turns.{not-swap}
 use Rattle.nodes.proofs.Tied.{found-is}
 
 some-left : (l : List ℕ) → ltb 0 (length l) ≡ not (is-nil l)

@@ -1,6 +1,6 @@
 -- The nodes that follow a block by the columns, and the turns of the search down.
 use mathlib.Core.Bool.{Bool, true, false}
-use mathlib.Core.List.{List, []}
+use mathlib.Core.List.{List}
 use mathlib.Core.Option.{none, some}
 use mathlib.Core.Path.{_≡_, sym, ap, subst, _∙_}
 use mathlib.Core.Logic.{_≢_}
@@ -9,37 +9,25 @@ use native.Mathlib.Omega.{arith}
 use lib.Dec.{T, eqb, eqb→eq}
 use lib.ListN.{length}
 use borrow.Author.Tests.{eq-eqb, ne-eqb}
-use Rattle.loops.specs.Listing.{times, keep, front}
+use Rattle.loops.specs.Listing.{keep, front}
 use Rattle.loops.proofs.Listings.{kept-in}
 use Rattle.grandpa.specs.Tree.{below}
-use Rattle.grandpa.proofs.Trees.{below-up, below-trans, below-le, below-step, child-below}
+use Rattle.grandpa.proofs.Trees.{below-up, below-trans, below-le, below-step}
 use Rattle.graph.specs.Search.{nearest}
 use Rattle.graph.specs.Graph.{Graph, tally, children}
-use Rattle.graph.specs.Ghost.{under, towards, first-in, meets, merge, settle, following, find-ghost}
+use Rattle.graph.specs.Ghost.{under, first-in, merge, settle, following, find-ghost}
 use Rattle.graph.proofs.Climbs.{nearest-says}
-use Rattle.graph.proofs.Followed.{under-is, is-under, towards-says}
+use Rattle.graph.proofs.Followed.{is-under}
 use Rattle.nodes.specs.declared.Places.{Places}
-use Rattle.nodes.specs.Nodes.{col, flag, Falls, placed, listed-under}
+use Rattle.nodes.specs.Nodes.{col, flag, placed, listed-under}
 use Rattle.nodes.specs.Columns.{Columns, Sound, view}
-use Rattle.nodes.proofs.Lists.{length-kept, length-keep}
+use Rattle.nodes.proofs.Lists.{length-kept, length-keep, placed-front, placed-count}
 use Rattle.vote_search.specs.declared.Tally.{Tally}
-use Rattle.vote_search.specs.Searches.{tallied, followed, Lower}
-use Rattle.vote_search.proofs.Turns.{placed-front, placed-count}
-use Rattle.vote_search.proofs.Meetings.{meets-at}
+use Rattle.vote_merge.specs.Merges.{Lower}
+use Rattle.vote_merge.proofs.Lowers.{lower-kept}
+use Rattle.vote_search.specs.Searches.{tallied, followed}
 use Rattle.vote_search.proofs.Ancestors.{tallied-is}
 use Rattle.nodes.proofs.Tied.{listed-is}
-
--- places kept are strictly below, and fewer
-pub lower-kept : (parents : List ℕ) (c : ℕ) (l : List ℕ) → Lower parents c (keep (under (col parents) c) l)
-lower-kept parents c l n h = kept-in (under (col parents) c) n l h .1
-
-pub lower-past : (parents : List ℕ) → Falls parents → (b n : ℕ) (l : List ℕ) → Lower parents b l → 0 < times n l → b < n
-lower-past parents falls b n l lower h =
-    let r = under-is (col parents) falls b n (lower n h) in
-    omega (arith, below-le (col parents) falls b n (r .0), r .1)
-
-pub kept-few : (p : ℕ → Bool) (k : ℕ) (xs : List ℕ) (m : Places) → m ≡ placed (keep p (front k xs)) → m .count ≤ k
-kept-few p k xs m e = omega (arith, placed-count m _ e, length-kept p k xs)
 
 length-listed : (above : ℕ → ℕ) (k : ℕ) (xs : List ℕ) (x : ℕ) → length (listed-under above (front k xs) x) ≤ k
 unfolding listed-under
@@ -66,14 +54,6 @@ pub followed-by : (parents : List ℕ) (used : List Bool) (above order : List �
 unfolding followed
 followed-by parents used above order listed b over m k e p q =
     q ∙ ap (λ (l : List ℕ). placed (keep (under (col parents) b) l)) (placed-front m _ p ∙ ap (listed-under (col above) (front listed order)) e)
-
--- the child in which nodes meet is below
-pub meets-past : (parents : List ℕ) → Falls parents → (bits : ℕ → List ℕ) (ok : List ℕ → Bool) (b : ℕ) (ns : List ℕ) → Lower parents b ns
-    → (c : ℕ) → c ≡ meets (col parents) bits ok b [] ns → c ≢ 0 → b < c
-meets-past parents falls bits ok b ns lower c e d =
-    let r = meets-at (col parents) bits b ok ns [] (λ q. d (e ∙ q)) in
-    let s = child-below (col parents) falls b (towards (col parents) b (r .0)) (towards-says (col parents) falls b (r .0) (lower (r .0) (r .1)) .0) in
-    omega (arith, below-le (col parents) falls b _ (s .0), s .1, r .2, e)
 
 -- the turns of the search down
 module _ (up : ℕ → ℕ) (g : Graph) (ok : List ℕ → Bool) (b : ℕ) (ns : List ℕ) where

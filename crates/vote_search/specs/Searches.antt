@@ -1,9 +1,9 @@
 -- `cumulative_vote` on lent columns, and what the searches ask of the columns that are lent to them.
 use mathlib.Core.Bool.{Bool, true, cond, not}
 use mathlib.Core.List.{List, []}
-use Prim.Native.Nat.{ℕ, _<_}
+use Prim.Native.Nat.{ℕ}
 use lib.Dec.{T}
-use Rattle.loops.specs.Listing.{front, times, keep}
+use Rattle.loops.specs.Listing.{front, keep}
 use Rattle.grandpa.specs.Tree.{below}
 use Rattle.graph.specs.Search.{nearest}
 use Rattle.graph.specs.Graph.{Graph, join-of}
@@ -35,7 +35,3 @@ pub record Stands (parents : List ℕ) (base : ℕ) (g : Columns) (block : ℕ) 
 -- the graph without its listing, which `find_ancestor` is not lent; `ancestor-unlisted` says that it does not ask for it
 abbrev pub unlisted : List Bool → List (List ℕ) → List ℕ → ℕ → Graph
 unlisted used rows heads tips = record { used = flag used; bits = row rows; order = []; heads = front tips heads }
-
--- places that all lie strictly below a block
-abbrev pub Lower : List ℕ → ℕ → List ℕ → Type 0
-Lower parents b ns = (n : ℕ) → 0 < times n ns → T (under (col parents) b n)

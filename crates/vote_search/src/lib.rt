@@ -1,16 +1,15 @@
 // `cumulative_vote`, `find_ancestor` and `find_ghost` of vote_graph.rs, on lent columns.
 ghost use mathlib.Core.Path.{_≡_};
-ghost use mathlib.Core.List.{List, []};
+ghost use mathlib.Core.List.{List};
 ghost use Prim.Native.Nat.{ℕ, _≤_};
-ghost use Rattle.loops.specs.Listing.{front};
-ghost use Rattle.graph.specs.Ghost.{find-ancestor, first-in, meets, merge, find-ghost};
-ghost use Rattle.nodes.specs.Nodes.{col, row, Falls, placed, passes};
+ghost use Rattle.graph.specs.Ghost.{find-ancestor, find-ghost};
+ghost use Rattle.nodes.specs.Nodes.{col, Falls, placed, passes};
 ghost use Rattle.nodes.specs.Columns.{view, as-found};
-ghost use Rattle.vote_search.specs.Searches.{tallied, followed, Stands, unlisted, Lower};
+ghost use Rattle.vote_search.specs.Searches.{tallied, followed, Stands, unlisted};
+use climbs::wide;
 use nodes::Found;
 use nodes::Places;
 use nodes::Question;
-use nodes::wide;
 
 // A block's bits, and whether it is in the graph at all.
 pub struct Tally {
@@ -39,7 +38,7 @@ pub fn cumulative_vote<'a>(
             bits: own,
         };
     }
-    let nodes = nodes::find_containing_nodes(parents, above, heads, tips, block);
+    let nodes = containing::find_containing_nodes(parents, above, heads, tips, block);
     let places = nodes.places;
     let count = nodes.count;
     let joined = nodes::join_of(rows, &places, count);
@@ -84,96 +83,6 @@ pub fn find_ancestor<'a>(
     found
 }
 
-// The first of some nodes whose bits answer a question with yes, or 0.
-pub fn first_passing<'a>(
-    rows: &'a [[u64; 2]; 256],
-    weights: &'a [u64; 64],
-    question: Question,
-    places: &'a [u8; 256],
-    count: usize,
-) -> u8
-    requires { ⌜ count ≤ 256 ⌝ }
-    ensures { λ r. ⌜ r ≡ first-in (λ n. passes (now (weights .entry)) question (row (now (rows .entry)) n)) (front count (now (places .entry))) ⌝ }
-{
-    for k in 0..count {
-        let node = places[k];
-        let at = wide(node);
-        let votes = rows[at];
-        if nodes::passes(weights, question, votes) {
-            return node;
-        }
-    }
-    0
-}
-
-// The first child of a block in which a second node meets those before it, where their joined bits answer a question with
-// yes, or 0.
-pub fn meets<'a>(
-    parents: &'a [u8; 256],
-    rows: &'a [[u64; 2]; 256],
-    weights: &'a [u64; 64],
-    question: Question,
-    places: &'a [u8; 256],
-    count: usize,
-    block: u8,
-) -> u8
-    requires { ⌜ (Falls (now parents)) × (count ≤ 256) ⌝ }
-    ensures { λ r. ⌜ r ≡ meets (col (now (parents .entry))) (row (now (rows .entry))) (passes (now (weights .entry)) question) block [] (front count (now (places .entry))) ⌝ }
-{
-    let mut seen = [false; 256];
-    let mut joined = [[0u64; 2]; 256];
-    for k in 0..count {
-        let node = places[k];
-        let child = nodes::towards(parents, block, node);
-        if node == child {
-            continue;
-        }
-        let at = wide(child);
-        let from = wide(node);
-        let bits = bitfield::merge(joined[at], rows[from]);
-        let met = seen[at];
-        seen[at] = true;
-        joined[at] = bits;
-        if !met {
-            continue;
-        }
-        if nodes::passes(weights, question, bits) {
-            return child;
-        }
-    }
-    0
-}
-
-// From a block down the blocks in which nodes meet, while their joined bits answer a question with yes. Fewer than two
-// nodes do not meet.
-pub fn merge_point<'a>(
-    parents: &'a [u8; 256],
-    rows: &'a [[u64; 2]; 256],
-    weights: &'a [u64; 64],
-    question: Question,
-    nodes: Places,
-    block: u8,
-) -> u8
-    requires { ⌜ (Falls (now parents)) × (nodes .count ≤ 256) × Lower (now parents) block (front (nodes .count) (nodes .places)) ⌝ }
-    ensures { λ r. ⌜ r ≡ merge (col (now (parents .entry))) (row (now (rows .entry))) (passes (now (weights .entry)) question) 256 block (front (nodes .count) (nodes .places)) ⌝ }
-{
-    let mut best = block;
-    let mut places = nodes.places;
-    let mut count = nodes.count;
-    while 1 < count {
-        let child = meets(parents, rows, weights, question, &places, count, best);
-        if child == 0 {
-            return best;
-        }
-        let fewer = nodes::strictly_below(parents, &places, count, child);
-        let kept = fewer.places;
-        places = kept;
-        count = fewer.count;
-        best = child;
-    }
-    best
-}
-
 // The nodes that follow a block: strictly below it, with no node between.
 fn following<'a>(
     parents: &'a [u8; 256],
@@ -186,7 +95,7 @@ fn following<'a>(
     requires { ⌜ (Falls (now parents)) × (listed ≤ 256) ⌝ }
     ensures { λ r. ⌜ r ≡ placed (followed (now (parents .entry)) (now (used .entry)) (now (above .entry)) (now (order .entry)) listed block) ⌝ }
 {
-    let over = nodes::nearest(parents, used, block);
+    let over = climbs::nearest(parents, used, block);
     let nodes = nodes::children(above, order, listed, over);
     let places = nodes.places;
     let count = nodes.count;
@@ -221,10 +130,17 @@ pub fn find_ghost<'a>(
     let mut places = follow.places;
     let mut count = follow.count;
     loop {
-        let child = first_passing(rows, weights, question, &places, count);
+        let child = vote_merge::first_passing(rows, weights, question, &places, count);
         if child == 0 {
             let nodes = Places { places, count };
-            return Found::At(merge_point(parents, rows, weights, question, nodes, last));
+            return Found::At(vote_merge::merge_point(
+                parents,
+                rows,
+                weights,
+                question,
+                nodes,
+                last,
+            ));
         }
         let next = nodes::children(above, order, listed, child);
         let lower = next.places;

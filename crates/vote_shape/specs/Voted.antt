@@ -12,7 +12,7 @@ use Rattle.loops.specs.All.{all, any}
 use Rattle.grandpa.specs.Tree.{below}
 use Rattle.bitfield.specs.Bits.{has}
 use Rattle.nodes.specs.Nodes.{col, flag, row}
-use Rattle.graph_shape.specs.Graphed.{laid}
+use Rattle.graph_lists.specs.Listed.{laid}
 use Rattle.tracker.specs.declared.Votes.{Votes}
 
 -- no, one or two pairs, and none of a voter past the last

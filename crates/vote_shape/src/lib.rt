@@ -7,7 +7,7 @@ ghost use lib.Dec.{leb, ltb};
 ghost use Rattle.bitfield.specs.Bits.{has};
 ghost use Rattle.nodes.specs.Nodes.{col, Falls};
 ghost use Rattle.vote_shape.specs.Voted.{counted, first-clear, second-clear, tidy, lies, marks, noted, targets-used, only-marked, noded, same-bits, told, doubled, paired, written, voted, Held};
-use nodes::wide;
+use climbs::wide;
 
 // Whether the recorded votes of `size` voters and what is kept beside them keep their shape rules.
 pub fn is_voted<'a>(
@@ -268,7 +268,7 @@ fn written<'a>(times: &'a [u8; 128], entries: &'a [u8; 256], count: usize) -> bo
         return false;
     }
     let pairs = pairs(times);
-    graph_shape::laid(entries, count, &pairs)
+    graph_lists::laid(entries, count, &pairs)
 }
 
 // Entry 2j is the first pair of index j, entry 2j + 1 its second.

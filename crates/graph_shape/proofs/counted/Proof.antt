@@ -7,7 +7,7 @@ use Rattle.graph_shape.proofs.counted.Statement.{statement}
 use Rattle.graph_shape.proofs.counted.Tie as tie
 use Rattle.graph_shape.proofs.counted.Reads as reads
 use Rattle.graph_shape.proofs.counted.Lts as lts
-use Rattle.nodes.proofs.wide.Reads as wide-reads
+use Rattle.climbs.proofs.wide.Reads as wide-reads
 
 returns : tie.Need-returns
 unfolding counted

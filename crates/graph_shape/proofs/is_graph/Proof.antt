@@ -8,14 +8,14 @@ use Rattle.graph_shape.proofs.is_graph.Statement.{statement}
 use Rattle.graph_shape.proofs.is_graph.Tie as tie
 use Rattle.graph_shape.proofs.is_graph.Reads as reads
 use Rattle.graph_shape.proofs.is_graph.Lts as lts
-use Rattle.graph_shape.proofs.bare.Reads as bare-reads
-use Rattle.graph_shape.proofs.childless.Reads as childless-reads
+use Rattle.graph_lists.proofs.bare.Reads as bare-reads
+use Rattle.graph_lists.proofs.childless.Reads as childless-reads
 use Rattle.graph_shape.proofs.counted.Reads as counted-reads
-use Rattle.graph_shape.proofs.inside.Reads as inside-reads
-use Rattle.graph_shape.proofs.laid.Reads as laid-reads
+use Rattle.graph_sweeps.proofs.inside.Reads as inside-reads
+use Rattle.graph_lists.proofs.laid.Reads as laid-reads
 use Rattle.graph_shape.proofs.others.Reads as others-reads
-use Rattle.graph_shape.proofs.rising.Reads as rising-reads
-use Rattle.graph_shape.proofs.tied.Reads as tied-reads
+use Rattle.graph_lists.proofs.rising.Reads as rising-reads
+use Rattle.graph_sweeps.proofs.tied.Reads as tied-reads
 
 counted-requires : tie.Need-counted-requires
 counted-requires c κs = search needs

@@ -3,7 +3,7 @@ use Rattle.graph_shape.proofs.others.Statement.{statement}
 use Rattle.graph_shape.proofs.others.Tie as tie
 use Rattle.graph_shape.proofs.others.Reads as reads
 use Rattle.graph_shape.proofs.others.Lts as lts
-use Rattle.nodes.proofs.wide.Reads as wide-reads
+use Rattle.climbs.proofs.wide.Reads as wide-reads
 
 wide-requires : tie.Need-wide-requires
 wide-requires c κs = search needs

@@ -1,6 +1,6 @@
 use borrow.Author.Needs.{needs}
-use mathlib.Core.Path.{_≡_, refl, sym, ap, _∙_}
-use Prim.Native.Nat.{ℕ, _<_, _≤_, _-_, _+_}
+use mathlib.Core.Path.{sym, ap, _∙_}
+use Prim.Native.Nat.{_≤_, _-_}
 use native.Mathlib.Omega.{arith}
 use lib.Dec.{eqb}
 use lib.ListN.{getD}
@@ -11,7 +11,7 @@ use Rattle.nodes.proofs.children.Statement.{statement}
 use Rattle.nodes.proofs.children.Tie as tie
 use Rattle.nodes.proofs.children.Reads as reads
 use Rattle.nodes.proofs.children.Lts as lts
-use Rattle.nodes.proofs.wide.Reads as wide-reads
+use Rattle.climbs.proofs.wide.Reads as wide-reads
 
 abbrev Inv-loop : tie.InvT-loop
 Inv-loop above order listed node places₀ count₀ k₀ places count k = (k ≤ listed) × Laid (λ n. eqb (getD above n 0) node) order k places count

@@ -1,6 +1,5 @@
-use mathlib.Core.Bool.{Bool, true, false, not, _&&_, and-true, and-false}
-use mathlib.Core.Path.{_≡_, refl, sym, ap, _∙_}
-use lib.Dec.{eqb}
+use mathlib.Core.Bool.{Bool, not, _&&_, and-true, and-false}
+use mathlib.Core.Path.{sym, ap, _∙_}
 use borrow.Author.Tests.{eq-eqb, ne-eqb}
 use Rattle.grandpa.specs.Tree.{below}
 use Rattle.nodes.specs.Nodes.{col}
@@ -9,7 +8,7 @@ use Rattle.nodes.proofs.is_under.Statement.{statement}
 use Rattle.nodes.proofs.is_under.Tie as tie
 use Rattle.nodes.proofs.is_under.Reads as reads
 use Rattle.nodes.proofs.is_under.Lts as lts
-use Rattle.nodes.proofs.reaches.Reads as reaches-reads
+use Rattle.climbs.proofs.reaches.Reads as reaches-reads
 
 -- src/lib.rt:190:9
 returns : tie.Need-returns

@@ -1,7 +1,7 @@
 use borrow.Author.Needs.{needs}
 use mathlib.Core.Path.{_≡_, refl, sym, ap, _∙_}
 use mathlib.Core.List.{List}
-use Prim.Native.Nat.{ℕ, _<_, _≤_, _-_, _+_}
+use Prim.Native.Nat.{ℕ, _≤_, _-_}
 use native.Mathlib.Omega.{arith}
 use lib.ListN.{getD}
 use Rattle.loops.specs.Listing.{fold, front}
@@ -14,7 +14,7 @@ use Rattle.nodes.proofs.join_of.Tie as tie
 use Rattle.nodes.proofs.join_of.Reads as reads
 use Rattle.nodes.proofs.join_of.Lts as lts
 use Rattle.bitfield.proofs.merge.Reads as merge-reads
-use Rattle.nodes.proofs.wide.Reads as wide-reads
+use Rattle.climbs.proofs.wide.Reads as wide-reads
 
 abbrev Inv-loop : tie.InvT-loop
 Inv-loop rows places count bits₀ k₀ bits k = (k ≤ count) × (bits ≡ join-of (row rows) (front k places))

@@ -1,4 +1,3 @@
-use mathlib.Core.Path.{_≡_, refl, sym, ap, _∙_}
 use borrow.Author.Needs.{needs}
 use Rattle.nodes.specs.Nodes.{passes}
 use Rattle.nodes.proofs.passes.Statement.{statement}

@@ -3,7 +3,7 @@ use Rattle.tracker.proofs.first_pair.Statement.{statement}
 use Rattle.tracker.proofs.first_pair.Tie as tie
 use Rattle.tracker.proofs.first_pair.Reads as reads
 use Rattle.tracker.proofs.first_pair.Lts as lts
-use Rattle.nodes.proofs.wide.Reads as wide-reads
+use Rattle.climbs.proofs.wide.Reads as wide-reads
 
 -- src/lib.rt:86:29
 element-copy-out-wide : tie.Need-element-copy-out-wide

@@ -1,5 +1,4 @@
-use mathlib.Core.Path.{_≡_, refl, sym, ap, subst, _∙_}
-use Prim.Native.Nat.{ℕ, _<_, _≤_, _-_, _+_}
+use Prim.Native.Nat.{_-_}
 use native.Mathlib.Omega.{arith}
 use Rattle.vote_insert.proofs.Adds.{few, list-room, heads-room, is-over, added-some, added-none}
 use borrow.Author.Needs.{needs}
@@ -7,12 +6,12 @@ use Rattle.vote_insert.proofs.add_node.Statement.{statement}
 use Rattle.vote_insert.proofs.add_node.Tie as tie
 use Rattle.vote_insert.proofs.add_node.Reads as reads
 use Rattle.vote_insert.proofs.add_node.Lts as lts
-use Rattle.nodes.proofs.find_containing_nodes.Reads as find-containing-nodes-reads
+use Rattle.containing.proofs.find_containing_nodes.Reads as find-containing-nodes-reads
 use Rattle.nodes.proofs.join_of.Reads as join-of-reads
-use Rattle.nodes.proofs.nearest.Reads as nearest-reads
-use Rattle.nodes.proofs.wide.Reads as wide-reads
-use Rattle.vote_insert.proofs.rehead.Reads as rehead-reads
-use Rattle.vote_insert.proofs.relist.Reads as relist-reads
+use Rattle.climbs.proofs.nearest.Reads as nearest-reads
+use Rattle.climbs.proofs.wide.Reads as wide-reads
+use Rattle.vote_lists.proofs.rehead.Reads as rehead-reads
+use Rattle.vote_lists.proofs.relist.Reads as relist-reads
 use Rattle.vote_insert.proofs.set_all.Reads as set-all-reads
 
 -- src/lib.rt:200:9

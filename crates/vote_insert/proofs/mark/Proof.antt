@@ -1,11 +1,11 @@
 use borrow.Author.Needs.{needs}
 use mathlib.Core.Path.{_≡_, refl, sym, ap, _∙_}
 use mathlib.Core.List.{List}
-use Prim.Native.Nat.{ℕ, _<_, _≤_, _-_, _+_}
+use Prim.Native.Nat.{ℕ, _<_, _-_}
 use native.Mathlib.Omega.{arith}
 use lib.ListN.{getD, set}
 use Rattle.bitfield.specs.Bits.{put}
-use Rattle.nodes.specs.Nodes.{col, row}
+use Rattle.nodes.specs.Nodes.{row}
 use Rattle.vote_insert.specs.Insert.{marked}
 use Rattle.vote_insert.proofs.Marks.{marked-end, marked-next}
 use Rattle.vote_insert.proofs.mark.Statement.{statement}
@@ -13,7 +13,7 @@ use Rattle.vote_insert.proofs.mark.Tie as tie
 use Rattle.vote_insert.proofs.mark.Reads as reads
 use Rattle.vote_insert.proofs.mark.Lts as lts
 use Rattle.bitfield.proofs.set_bit.Reads as set-bit-reads
-use Rattle.nodes.proofs.wide.Reads as wide-reads
+use Rattle.climbs.proofs.wide.Reads as wide-reads
 
 abbrev Inv-loop : tie.InvT-loop
 Inv-loop above rows₀ base block bit at₀ rows at = (at < 256) × (marked above base bit block rows₀ ≡ marked above base bit at rows)

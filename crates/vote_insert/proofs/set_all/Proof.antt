@@ -1,17 +1,17 @@
 use borrow.Author.Needs.{needs}
 use mathlib.Core.Path.{_≡_, refl, sym, ap, _∙_}
 use mathlib.Core.List.{List}
-use Prim.Native.Nat.{ℕ, _<_, _≤_, _-_, _+_}
+use Prim.Native.Nat.{ℕ, _≤_, _-_}
 use native.Mathlib.Omega.{arith}
 use lib.ListN.{getD, set}
 use Rattle.loops.specs.Listing.{front, fold}
 use Rattle.vote_insert.specs.Insert.{set-all}
-use Rattle.vote_insert.proofs.Lists.{set-all-next}
+use Rattle.vote_insert.proofs.Sets.{set-all-next}
 use Rattle.vote_insert.proofs.set_all.Statement.{statement}
 use Rattle.vote_insert.proofs.set_all.Tie as tie
 use Rattle.vote_insert.proofs.set_all.Reads as reads
 use Rattle.vote_insert.proofs.set_all.Lts as lts
-use Rattle.nodes.proofs.wide.Reads as wide-reads
+use Rattle.climbs.proofs.wide.Reads as wide-reads
 
 abbrev Inv-loop : tie.InvT-loop
 Inv-loop above₀ members count node k₀ above k = (k ≤ count) × (above ≡ set-all above₀ (front k members) node)

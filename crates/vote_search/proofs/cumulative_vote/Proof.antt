@@ -6,9 +6,9 @@ use Rattle.vote_search.proofs.cumulative_vote.Statement.{statement}
 use Rattle.vote_search.proofs.cumulative_vote.Tie as tie
 use Rattle.vote_search.proofs.cumulative_vote.Reads as reads
 use Rattle.vote_search.proofs.cumulative_vote.Lts as lts
-use Rattle.nodes.proofs.find_containing_nodes.Reads as find-containing-nodes-reads
+use Rattle.containing.proofs.find_containing_nodes.Reads as find-containing-nodes-reads
 use Rattle.nodes.proofs.join_of.Reads as join-of-reads
-use Rattle.nodes.proofs.wide.Reads as wide-reads
+use Rattle.climbs.proofs.wide.Reads as wide-reads
 
 -- src/lib.rt:35:9
 wide-requires : tie.Need-wide-requires

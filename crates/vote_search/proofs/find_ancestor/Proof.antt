@@ -15,7 +15,7 @@ use Rattle.vote_search.proofs.find_ancestor.Tie as tie
 use Rattle.vote_search.proofs.find_ancestor.Reads as reads
 use Rattle.vote_search.proofs.find_ancestor.Lts as lts
 use Rattle.nodes.proofs.passes.Reads as passes-reads
-use Rattle.nodes.proofs.wide.Reads as wide-reads
+use Rattle.climbs.proofs.wide.Reads as wide-reads
 use Rattle.vote_search.proofs.cumulative_vote.Reads as cumulative-vote-reads
 
 abbrev Inv-loop : tie.InvT-loop

@@ -7,10 +7,12 @@ use Rattle.loops.specs.Listing.{front}
 use Rattle.graph.specs.Ghost.{settle, following}
 use Rattle.nodes.specs.Nodes.{col, passes}
 use Rattle.nodes.specs.Columns.{view, as-found}
-use Rattle.vote_search.specs.Searches.{Lower}
-use Rattle.vote_search.proofs.Turns.{placed-front, first-listed}
+use Rattle.vote_merge.specs.Merges.{Lower}
+use Rattle.nodes.proofs.Lists.{placed-front}
+use Rattle.vote_merge.proofs.Turns.{first-listed}
+use Rattle.vote_merge.proofs.Lowers.{lower-past}
 use Rattle.nodes.proofs.Tied.{listed-is}
-use Rattle.vote_search.proofs.Descents.{lower-past, listed-few, followed-few, settle-ends, settle-goes, followed-is, lower-following, lower-children, ghost-none, ghost-some}
+use Rattle.vote_search.proofs.Descents.{listed-few, followed-few, settle-ends, settle-goes, followed-is, lower-following, lower-children, ghost-none, ghost-some}
 use Rattle.vote_search.proofs.find_ghost.Statement.{statement}
 use Rattle.vote_search.proofs.find_ghost.Tie as tie
 use Rattle.vote_search.proofs.find_ghost.Reads as reads
@@ -18,9 +20,9 @@ use Rattle.vote_search.proofs.find_ghost.Lts as lts
 use Rattle.nodes.proofs.children.Reads as children-reads
 use Rattle.nodes.proofs.passes.Reads as passes-reads
 use Rattle.vote_search.proofs.cumulative_vote.Reads as cumulative-vote-reads
-use Rattle.vote_search.proofs.first_passing.Reads as first-passing-reads
+use Rattle.vote_merge.proofs.first_passing.Reads as first-passing-reads
 use Rattle.vote_search.proofs.following.Reads as following-reads
-use Rattle.vote_search.proofs.merge_point.Reads as merge-point-reads
+use Rattle.vote_merge.proofs.merge_point.Reads as merge-point-reads
 
 abbrev Inv-loop : tie.InvT-loop
 Inv-loop parents used above rows order listed heads tips weights question block last₀ places₀ count₀ last places count =

@@ -6,7 +6,7 @@ use Rattle.vote_search.proofs.following.Tie as tie
 use Rattle.vote_search.proofs.following.Reads as reads
 use Rattle.vote_search.proofs.following.Lts as lts
 use Rattle.nodes.proofs.children.Reads as children-reads
-use Rattle.nodes.proofs.nearest.Reads as nearest-reads
+use Rattle.climbs.proofs.nearest.Reads as nearest-reads
 use Rattle.nodes.proofs.strictly_below.Reads as strictly-below-reads
 
 -- src/lib.rt:189:9

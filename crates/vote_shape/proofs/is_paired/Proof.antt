@@ -4,7 +4,7 @@ use Rattle.vote_shape.proofs.is_paired.Statement.{statement}
 use Rattle.vote_shape.proofs.is_paired.Tie as tie
 use Rattle.vote_shape.proofs.is_paired.Reads as reads
 use Rattle.vote_shape.proofs.is_paired.Lts as lts
-use Rattle.nodes.proofs.wide.Reads as wide-reads
+use Rattle.climbs.proofs.wide.Reads as wide-reads
 
 -- src/lib.rt:293:13
 wide-requires : tie.Need-wide-requires

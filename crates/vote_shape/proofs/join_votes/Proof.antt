@@ -12,7 +12,7 @@ use Rattle.vote_shape.proofs.join_votes.Reads as reads
 use Rattle.vote_shape.proofs.join_votes.Lts as lts
 use Rattle.bitfield.proofs.merge.Reads as merge-reads
 use Rattle.bitfield.proofs.set_bit.Reads as set-bit-reads
-use Rattle.nodes.proofs.wide.Reads as wide-reads
+use Rattle.climbs.proofs.wide.Reads as wide-reads
 
 abbrev Inv-loop : tie.InvT-loop
 Inv-loop parents times places rows₀ j₀ rows j = (j ≤ 128) × Small times places j × Held rows (sofar times places j)

@@ -9,7 +9,7 @@ use Rattle.vote_shape.proofs.noded.Statement.{statement}
 use Rattle.vote_shape.proofs.noded.Tie as tie
 use Rattle.vote_shape.proofs.noded.Reads as reads
 use Rattle.vote_shape.proofs.noded.Lts as lts
-use Rattle.nodes.proofs.wide.Reads as wide-reads
+use Rattle.climbs.proofs.wide.Reads as wide-reads
 use Rattle.vote_shape.proofs.noted.Reads as noted-reads
 use Rattle.vote_shape.proofs.only_marked.Reads as only-marked-reads
 use Rattle.vote_shape.proofs.targets_used.Reads as targets-used-reads

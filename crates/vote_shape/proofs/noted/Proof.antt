@@ -9,7 +9,7 @@ use Rattle.vote_shape.proofs.noted.Statement.{statement}
 use Rattle.vote_shape.proofs.noted.Tie as tie
 use Rattle.vote_shape.proofs.noted.Reads as reads
 use Rattle.vote_shape.proofs.noted.Lts as lts
-use Rattle.nodes.proofs.wide.Reads as wide-reads
+use Rattle.climbs.proofs.wide.Reads as wide-reads
 
 abbrev Inv-loop : tie.InvT-loop
 Inv-loop base times places marks₀ j₀ marks j = (j ≤ 128) × Marked marks (before base times places j) 256

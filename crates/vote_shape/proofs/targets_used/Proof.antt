@@ -14,7 +14,7 @@ use Rattle.vote_shape.proofs.targets_used.Statement.{statement}
 use Rattle.vote_shape.proofs.targets_used.Tie as tie
 use Rattle.vote_shape.proofs.targets_used.Reads as reads
 use Rattle.vote_shape.proofs.targets_used.Lts as lts
-use Rattle.nodes.proofs.wide.Reads as wide-reads
+use Rattle.climbs.proofs.wide.Reads as wide-reads
 use Rattle.vote_shape.proofs.is_used.Reads as is-used-reads
 
 abbrev Inv-loop : tie.InvT-loop

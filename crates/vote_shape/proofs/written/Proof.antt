@@ -6,7 +6,7 @@ use Rattle.vote_shape.proofs.written.Statement.{statement}
 use Rattle.vote_shape.proofs.written.Tie as tie
 use Rattle.vote_shape.proofs.written.Reads as reads
 use Rattle.vote_shape.proofs.written.Lts as lts
-use Rattle.graph_shape.proofs.laid.Reads as laid-reads
+use Rattle.graph_lists.proofs.laid.Reads as laid-reads
 use Rattle.vote_shape.proofs.pairs.Reads as pairs-reads
 
 -- src/lib.rt:273:9

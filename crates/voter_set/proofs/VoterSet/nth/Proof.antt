@@ -3,13 +3,13 @@ use native.Mathlib.Omega.{arith}
 use lib.ListN.{length}
 use borrow.Author.Tests.{lt-ltb}
 use Rattle.voter_set.specs.Lookup.{nth}
-use Rattle.voter_set.proofs.Lookups.{nth-beyond, nth-short}
+use Rattle.voter_set.proofs.Steps.{nth-beyond, nth-short}
 use borrow.Author.Needs.{needs}
 use Rattle.voter_set.proofs.VoterSet.nth.Statement.{statement}
 use Rattle.voter_set.proofs.VoterSet.nth.Tie as tie
 use Rattle.voter_set.proofs.VoterSet.nth.Reads as reads
 use Rattle.voter_set.proofs.VoterSet.nth.Lts as lts
-use Rattle.voter_set.proofs.info.Reads as info-reads
+use Rattle.voter_info.proofs.info.Reads as info-reads
 
 -- src/lib.rt:102:13
 returns : tie.Need-returns

@@ -1,6 +1,6 @@
 use mathlib.Core.Path.{sym}
 use native.Mathlib.Omega.{arith}
-use Rattle.voter_set.proofs.Lookups.{nth-beyond}
+use Rattle.voter_set.proofs.Steps.{nth-beyond}
 use Rattle.voter_set.specs.Lookup.{nth-mod}
 use borrow.Author.Needs.{needs}
 use Rattle.voter_set.proofs.VoterSet.nth_mod.Statement.{statement}

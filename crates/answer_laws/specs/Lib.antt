@@ -1,0 +1,3 @@
+pub mod Faithful
+pub mod Seats
+pub mod Tells

@@ -1,0 +1,141 @@
+-- One law for each way through a step, and where the searches may start.
+use mathlib.Core.Bool.{Bool, true, false, not, _&&_}
+use mathlib.Core.List.{List}
+use mathlib.Core.Option.{Option, none, some}
+use mathlib.Core.Path.{_≡_, sym, ap, subst, _∙_}
+use mathlib.Core.Logic.{_≢_}
+use Prim.Native.Nat.{ℕ, _≤_, _<_}
+use lib.Dec.{T}
+use borrow.Author.Tests.{le-leb, lt-leb, eq-eqb, ne-eqb}
+use Rattle.loops.proofs.Tests.{by-test}
+use Rattle.grandpa.specs.Tree.{below}
+use Rattle.grandpa.specs.Answers.{First, Says, first-of}
+use Rattle.grandpa.proofs.Trees.{below-refl}
+use Rattle.grandpa.proofs.Searches.{first-says}
+use Rattle.grandpa.specs.declared.PossibleToPrecommit.{PossibleToPrecommit}
+use Rattle.grandpa.specs.Possible.{asked}
+use Rattle.context.specs.Votes.{voted, weightOf}
+use Rattle.context.specs.declared.Phase.{Phase}
+use Rattle.context.specs.declared.Phase.the-variants.{Prevote, Precommit}
+use Rattle.graph.specs.Graph.{Graph, tally}
+use Rattle.graph.specs.Search.{containing}
+use Rattle.graph.specs.Ghost.{is-nil, find-ancestor}
+use Rattle.nodes.specs.declared.Found.{Found}
+use Rattle.nodes.specs.declared.Found.the-variants.{At, Nothing}
+use Rattle.nodes.specs.declared.Condition.the-variants.{Possible}
+use Rattle.nodes.specs.declared.Question.{Question}
+use Rattle.nodes.specs.Nodes.{col, passes, Falls}
+use Rattle.nodes.specs.Columns.{Columns, as-found}
+use Rattle.vote_search.specs.Searches.{Stands, unlisted}
+use Rattle.vote_search.proofs.Ancestors.{ancestor-unlisted}
+use Rattle.answers.specs.declared.Answers.{Answers}
+use Rattle.answers.specs.declared.Heard.{Heard}
+use Rattle.answers.specs.Update.{Scene, Grounded, In-base, start-of, ghost-from, ancestor-from, weighty, phase-ghost, with-prevote, with-ghost, ends-at, settled, waiting, reached, update}
+
+-- a search starts at or below the base
+pub start-in : (parents : List ℕ) (base : ℕ) (graph : Columns) → Grounded parents base graph → (o : Found) → In-base parents base o
+    → T (below (col parents) base (start-of o base))
+start-in parents base graph g (At b) h = h
+start-in parents base graph g Nothing h = below-refl (col parents) (g .sound .parents-fall) base
+
+pub stands : (parents : List ℕ) (base : ℕ) (graph : Columns) → Grounded parents base graph → (b : ℕ) → T (below (col parents) base b)
+    → Stands parents base graph b
+stands parents base graph g b h = record { ids = g .ids; count = g .count; sound = g .sound; in-base = h }
+
+-- a block told is one stored
+pub told-in : (parents : List ℕ) (base : ℕ) (o : Found) → In-base parents base o → (b : ℕ) → o ≡ At b → T (below (col parents) base b)
+told-in parents base o h b e = subst (In-base parents base) e h
+
+-- the search towards the base ends at or below it
+pub ancestor-in : (parents : List ℕ) → Falls parents → (g : Graph) (base : ℕ) (ok : List ℕ → Bool) (b : ℕ) → T (below (col parents) base b)
+    → (r : Found) → r ≡ as-found (find-ancestor (col parents) g base ok b) → In-base parents base r
+unfolding find-ancestor
+ancestor-in parents falls g base ok b h r e =
+    rw e (by-test (λ (o : Option ℕ). In-base parents base (as-found o)) (not (g .used b) && is-nil (containing (col parents) (g .used) (g .heads) b)) none
+    (first-of (col parents) (λ x. ok (tally (col parents) g x)) base b) (λ t. tt)
+    (λ t. go (first-of (col parents) (λ x. ok (tally (col parents) g x)) base b) (first-says (col parents) falls base _ b h)))
+  where
+    go : (o : Option ℕ) → Says (First (col parents) (λ x. ok (tally (col parents) g x)) base b) o → In-base parents base (as-found o)
+    go none r = tt
+    go (some x) r = r .inside
+
+-- the GHOST of a phase
+module _ (s : Scene) (phase : Phase) (heard : ℕ) (stored : Found) where
+  pub phase-stays : heard < s .threshold → stored ≡ phase-ghost s phase heard stored
+  unfolding phase-ghost
+  phase-stays h = rw (lt-leb (s .threshold) heard h)
+
+  pub phase-goes : s .threshold ≤ heard → (b : ℕ) → b ≡ start-of stored (s .base) → (r : Found)
+      → r ≡ ghost-from (s .parents) (s .weights) (s .graph) (weighty s phase) b → r ≡ phase-ghost s phase heard stored
+  unfolding phase-ghost
+  phase-goes h b e r q = rw (le-leb (s .threshold) heard h, ← e) q
+
+-- what is settled
+module _ (parents weights : List ℕ) (graph : Columns) (q : Question) (g : ℕ) where
+  pub settled-none : (o : Found) → o ≡ Nothing → false ≡ settled parents weights graph q g o
+  settled-none o e = rw e
+
+  pub settled-other : (o : Found) (e : ℕ) → o ≡ At e → e ≢ g → true ≡ settled parents weights graph q g o
+  settled-other o e p d = rw (p, ne-eqb e g d)
+
+  pub settled-end : (o : Found) (e : ℕ) → o ≡ At e → e ≡ g → (r : Found) → r ≡ ghost-from parents weights graph q e
+      → ends-at g r ≡ settled parents weights graph q g o
+  settled-end o e p d r k = rw (p, eq-eqb e g d, k)
+
+-- the question as the code holds it
+abbrev pub by-weight : Scene → PossibleToPrecommit → Question
+by-weight s p = record { phase = Precommit; condition = Possible p; equivocations = s .equivocations }
+
+-- the search towards the base as the code makes it, which is not lent the listing
+abbrev pub seen : Scene → Question → ℕ → Found
+seen s q b =
+    as-found (find-ancestor (col (s .parents)) (unlisted (s .graph .used) (s .graph .rows) (s .graph .heads) (s .graph .tips)) (s .base) (passes (s .weights) q) b)
+
+ancestor-seen : (s : Scene) → Grounded (s .parents) (s .base) (s .graph) → (q : Question) (b : ℕ) (r : Found)
+    → r ≡ seen s q b → r ≡ ancestor-from s q b
+ancestor-seen s g q b r e =
+    e ∙ ap as-found (ancestor-unlisted (s .parents) (g .ids) (s .base) (g .count) (s .graph) (g .sound) (passes (s .weights) q) b)
+
+-- the prevote-GHOST in an import
+module _ (s : Scene) (heard : Heard) (phase : Phase) (a : Answers) where
+  pub ghost-anew : phase ≡ Prevote → (r : Found) → r ≡ phase-ghost s Prevote (heard .prevote) (a .prevote) → with-prevote a r ≡ with-ghost s heard phase a
+  ghost-anew e r q = rw (e, q)
+
+  pub ghost-kept : phase ≡ Precommit → a ≡ with-ghost s heard phase a
+  ghost-kept e = rw e
+
+-- `update`
+module _ (s : Scene) (total : ℕ) (heard : Heard) (a : Answers) where
+  pub update-early : heard .prevote < s .threshold → a ≡ update s total heard a
+  unfolding update
+  update-early h = rw (lt-leb (s .threshold) (heard .prevote) h)
+
+  module _ (h : s .threshold ≤ heard .prevote) where
+    pub update-none : a .prevote ≡ Nothing → a ≡ update s total heard a
+    unfolding update
+    update-none e = rw (le-leb (s .threshold) (heard .prevote) h, e)
+
+    module _ (g : ℕ) (e : a .prevote ≡ At g) where
+      pub update-waits : heard .precommit < s .threshold → waiting a g ≡ update s total heard a
+      unfolding update
+      update-waits k = rw (le-leb (s .threshold) (heard .prevote) h, e, lt-leb (s .threshold) (heard .precommit) k)
+
+      pub update-goes : s .threshold ≤ heard .precommit → reached s total (heard .precommit) a g ≡ update s total heard a
+      unfolding update
+      update-goes k = rw (le-leb (s .threshold) (heard .prevote) h, e, le-leb (s .threshold) (heard .precommit) k)
+
+      -- the same as the code finds it
+      pub update-waiting : heard .precommit < s .threshold → waiting (with-prevote a (At g)) g ≡ update s total heard a
+      update-waiting k = ap (λ (o : Found). waiting (with-prevote a o) g) (sym e) ∙ update-waits k
+
+      pub update-reached : Grounded (s .parents) (s .base) (s .graph) → s .threshold ≤ heard .precommit
+          → (w : ℕ) (p : PossibleToPrecommit) → w ≡ weightOf (s .weights) (voted (s .equivocations) Precommit)
+          → p ≡ asked total (s .threshold) (heard .precommit) w → (f x : Found) (z : Bool)
+          → f ≡ seen s (weighty s Precommit) g → x ≡ seen s (by-weight s p) g → z ≡ settled (s .parents) (s .weights) (s .graph) (by-weight s p) g x
+          → record { prevote = At g; precommit = a .precommit; finalized = f; estimate = x; completable = z } ≡ update s total heard a
+      update-reached ground k w p u v f x z pf px pz =
+          ap (λ (o : Found). made o f x z) (sym e)
+          ∙ rw (pz, ancestor-seen s ground _ g x px, ancestor-seen s ground _ g f pf, v, u) (update-goes k)
+        where
+          made : Found → Found → Found → Bool → Answers
+          made o f x z = record { prevote = o; precommit = a .precommit; finalized = f; estimate = x; completable = z }

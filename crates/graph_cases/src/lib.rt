@@ -1,0 +1,1 @@
+// No code: worked examples of the shape test of a vote graph.

@@ -1,0 +1,186 @@
+use borrow.Author.Needs.{needs}
+use Rattle.importing.proofs.import.Statement.{statement}
+use Rattle.importing.proofs.import.Tie as tie
+use Rattle.importing.proofs.import.Reads as reads
+use Rattle.importing.proofs.import.Lts as lts
+use Rattle.bitfield.proofs.set_bit.Reads as set-bit-reads
+use Rattle.importing.proofs.updated.Reads as updated-reads
+use Rattle.importing.proofs.with_heard.Reads as with-heard-reads
+use Rattle.judging.proofs.index.Reads as index-reads
+use Rattle.judging.proofs.judge.Reads as judge-reads
+use Rattle.vote_insert.proofs.insert.Reads as insert-reads
+
+-- src/lib.rt:145:9
+judge-requires : tie.Need-judge-requires
+judge-requires c κs = search needs
+
+-- src/lib.rt:169:26
+enum-known-verdict : tie.Need-enum-known-verdict
+enum-known-verdict c = search needs
+
+-- src/lib.rt:170:24
+enum-known-verdict-2 : tie.Need-enum-known-verdict-2
+enum-known-verdict-2 c = search needs
+
+-- src/lib.rt:171:17
+index-requires : tie.Need-index-requires
+index-requires c κs = ?
+
+-- src/lib.rt:173:13
+element-write-times : tie.Need-element-write-times
+element-write-times c = search needs
+
+-- src/lib.rt:174:13
+element-write-places : tie.Need-element-write-places
+element-write-places c = search needs
+
+-- src/lib.rt:175:13
+mul-signatures : tie.Need-mul-signatures
+mul-signatures c = search needs
+
+-- src/lib.rt:175:13
+element-write-signatures : tie.Need-element-write-signatures
+element-write-signatures c = search needs
+
+-- src/lib.rt:176:31
+mul-entries : tie.Need-mul-entries
+mul-entries c = search needs
+
+-- src/lib.rt:176:30
+cast-entries : tie.Need-cast-entries
+cast-entries c = search needs
+
+-- src/lib.rt:176:13
+element-write-entries : tie.Need-element-write-entries
+element-write-entries c = ?
+
+-- src/lib.rt:177:17
+insert-requires : tie.Need-insert-requires
+insert-requires c κs = ?
+
+-- src/lib.rt:193:17
+with-heard-requires : tie.Need-with-heard-requires
+with-heard-requires c κs = search needs
+
+-- src/lib.rt:194:17
+updated-requires : tie.Need-updated-requires
+updated-requires c κs = ?
+
+-- src/lib.rt:217:28
+add-t62 : tie.Need-add-t62
+add-t62 c = ?
+
+-- src/lib.rt:224:25
+enum-known-verdict-3 : tie.Need-enum-known-verdict-3
+enum-known-verdict-3 c = search needs
+
+-- src/lib.rt:225:17
+index-requires-2 : tie.Need-index-requires-2
+index-requires-2 c κs = ?
+
+-- src/lib.rt:226:13
+element-write-times-2 : tie.Need-element-write-times-2
+element-write-times-2 c = search needs
+
+-- src/lib.rt:227:13
+mul-targets : tie.Need-mul-targets
+mul-targets c = search needs
+
+-- src/lib.rt:227:13
+element-write-targets : tie.Need-element-write-targets
+element-write-targets c = search needs
+
+-- src/lib.rt:228:13
+mul-numbers : tie.Need-mul-numbers
+mul-numbers c = search needs
+
+-- src/lib.rt:228:13
+element-write-numbers : tie.Need-element-write-numbers
+element-write-numbers c = search needs
+
+-- src/lib.rt:229:13
+mul-seconds : tie.Need-mul-seconds
+mul-seconds c = search needs
+
+-- src/lib.rt:229:13
+element-write-seconds : tie.Need-element-write-seconds
+element-write-seconds c = search needs
+
+-- src/lib.rt:230:31
+mul-entries-2 : tie.Need-mul-entries-2
+mul-entries-2 c = search needs
+
+-- src/lib.rt:230:31
+add-entries : tie.Need-add-entries
+add-entries c = search needs
+
+-- src/lib.rt:230:30
+cast-entries-2 : tie.Need-cast-entries-2
+cast-entries-2 c = search needs
+
+-- src/lib.rt:230:13
+element-write-entries-2 : tie.Need-element-write-entries-2
+element-write-entries-2 c = ?
+
+-- src/lib.rt:233:17
+set-bit-requires : tie.Need-set-bit-requires
+set-bit-requires c κs = search needs
+
+-- src/lib.rt:234:17
+updated-requires-2 : tie.Need-updated-requires-2
+updated-requires-2 c κs = ?
+
+-- src/lib.rt:263:28
+add-t82 : tie.Need-add-t82
+add-t82 c = ?
+
+-- src/lib.rt:113:1
+returns : tie.Need-returns
+returns c = ?
+
+-- src/lib.rt:113:1
+returns-2 : tie.Need-returns-2
+returns-2 c = ?
+
+-- src/lib.rt:113:1
+returns-3 : tie.Need-returns-3
+returns-3 c = ?
+
+pub import-spec : {M : Type 1} → statement M
+import-spec =
+    tie.close
+    (tie.spec
+    judge-requires
+    enum-known-verdict
+    enum-known-verdict-2
+    index-requires
+    element-write-times
+    element-write-places
+    mul-signatures
+    element-write-signatures
+    mul-entries
+    cast-entries
+    element-write-entries
+    insert-requires
+    with-heard-requires
+    updated-requires
+    add-t62
+    enum-known-verdict-3
+    index-requires-2
+    element-write-times-2
+    mul-targets
+    element-write-targets
+    mul-numbers
+    element-write-numbers
+    mul-seconds
+    element-write-seconds
+    mul-entries-2
+    add-entries
+    cast-entries-2
+    element-write-entries-2
+    set-bit-requires
+    updated-requires-2
+    add-t82
+    returns
+    returns-2
+    returns-3)

@@ -1,0 +1,121 @@
+// What is to be done with a vote: rules 1 to 5 of document 01, "How a vote is taken", and refusals 11, 12, 13. Nothing is changed here.
+ghost use mathlib.Core.Path.{_≡_};
+ghost use Prim.Native.Nat.{_≤_, _<_};
+ghost use Rattle.context.specs.Votes.{bit};
+ghost use Rattle.nodes.specs.Nodes.{Falls};
+ghost use Rattle.judging.specs.Judge.{judge-first, judge};
+use blocks::Place;
+use context::Phase;
+use climbs::wide;
+use tracker::AddVoteResult;
+use tracker::Pair;
+use voter_info::Lookup;
+use voter_info::VoterInfo;
+
+// Both pairs of an equivocator in arrival order.
+pub struct Equivocation {
+    pub number: u64,
+    pub identity: u32,
+    pub first: Pair,
+    pub second: Pair,
+}
+
+// `ImportResult`: a signer outside the set; a first vote; a duplicate; an equivocation; a third pair; a refusal.
+pub enum ImportResult {
+    Outside,
+    Counted,
+    Duplicated,
+    Equivocated(Equivocation),
+    Ignored,
+    Refused(u8),
+}
+
+// What is to be done with a vote: nothing, with the answer; a first vote by a voter for the block at a place; the second of a
+// voter, with the first beside it.
+pub enum Verdict {
+    Nothing(ImportResult),
+    First(VoterInfo, u8),
+    Second(VoterInfo, Pair),
+}
+
+// A first vote's target: refusals 11, 12 and 13, in that order.
+pub fn judge_first<'a>(
+    ids: &'a [u32; 256],
+    heights: &'a [u32; 256],
+    parents: &'a [u8; 256],
+    blocks: usize,
+    base: u8,
+    info: VoterInfo,
+    pair: Pair,
+) -> Verdict
+    requires { ⌜ (Falls (now parents)) × (blocks ≤ 256) ⌝ }
+    ensures { λ r. ⌜ r ≡ judge-first (now (ids .entry)) (now (heights .entry)) (now (parents .entry)) blocks base info pair ⌝ }
+{
+    let Place::At(block) = blocks::find(ids, blocks, pair.target) else {
+        return Verdict::Nothing(ImportResult::Refused(11));
+    };
+    if heights[wide(block)] != pair.number {
+        return Verdict::Nothing(ImportResult::Refused(12));
+    }
+    if !climbs::reaches(parents, base, block) {
+        return Verdict::Nothing(ImportResult::Refused(13));
+    }
+    Verdict::First(info, block)
+}
+
+// A voter's bit in a phase, which is also the index of its votes.
+pub fn index(place: usize, phase: Phase) -> usize
+    requires { ⌜ place < 64 ⌝ }
+    ensures { λ r. ⌜ (r ≡ bit phase place) × (r < 128) ⌝ }
+{
+    match phase {
+        Phase::Prevote => place * 2,
+        Phase::Precommit => place * 2 + 1,
+    }
+}
+
+// Rules 1 to 5.
+pub fn judge<'a>(
+    voters: &'a [u32; 64],
+    weights: &'a [u64; 64],
+    size: usize,
+    ids: &'a [u32; 256],
+    heights: &'a [u32; 256],
+    parents: &'a [u8; 256],
+    blocks: usize,
+    base: u8,
+    times: &'a [u8; 128],
+    places: &'a [u8; 128],
+    signatures: &'a [u64; 128],
+    targets: &'a [u32; 128],
+    numbers: &'a [u32; 128],
+    seconds: &'a [u64; 128],
+    phase: Phase,
+    signer: u32,
+    pair: Pair,
+) -> Verdict
+    requires { ⌜ (Falls (now parents)) × (blocks ≤ 256) × (size ≤ 64) ⌝ }
+    ensures { λ r. ⌜ r ≡ judge (now (voters .entry)) (now (weights .entry)) size (now (ids .entry)) (now (heights .entry)) (now (parents .entry)) blocks base (record { times = now (times .entry); places = now (places .entry); signatures = now (signatures .entry); targets = now (targets .entry); numbers = now (numbers .entry); seconds = now (seconds .entry) }) phase signer pair ⌝ }
+{
+    let Lookup::Voter(info) = voter_info::look_up(voters, weights, size, signer) else {
+        return Verdict::Nothing(ImportResult::Outside);
+    };
+    let at = index(info.position, phase);
+    let recorded = tracker::recorded(
+        times,
+        places,
+        signatures,
+        targets,
+        numbers,
+        seconds,
+        ids,
+        heights,
+        at,
+    );
+    match tracker::add_vote(recorded, pair) {
+        AddVoteResult::Single => judge_first(ids, heights, parents, blocks, base, info, pair),
+        AddVoteResult::Duplicated => Verdict::Nothing(ImportResult::Duplicated),
+        AddVoteResult::Equivocated(first) => Verdict::Second(info, first),
+        AddVoteResult::Ignored => Verdict::Nothing(ImportResult::Ignored),
+    }
+}

@@ -1,0 +1,4 @@
+pub mod Shapes
+pub mod Standings
+pub mod Clears
+pub mod Keeps

@@ -1,0 +1,3 @@
+pub mod Shape
+pub mod Target
+pub mod Calls

@@ -1,0 +1,52 @@
+-- The vote graph by value and its shape. Document 01, "Shape rules", "Refusal numbers" 9: a graph stands on a table, and
+-- both keep their rules.
+use mathlib.Core.Bool.{Bool, _&&_}
+use mathlib.Core.Path.{_≡_}
+use Prim.Native.Nat.{ℕ, _<_}
+use lib.Dec.{T, eqb}
+use lib.ListN.{length}
+use Rattle.loops.specs.All.{all}
+use Rattle.grandpa.specs.Tree.{below}
+use Rattle.blocks.specs.declared.BlockTable.{BlockTable}
+use Rattle.block_shape.specs.Shape.{tabled}
+use Rattle.nodes.specs.Nodes.{col, row}
+use Rattle.nodes.specs.Columns.{Columns}
+use Rattle.graph_shape.specs.Graphed.{graphed}
+use Rattle.graph_rows.specs.Rows.{words-of, rows-of}
+use Rattle.vote_graph.specs.declared.VoteGraph.{VoteGraph}
+
+-- the columns that a graph holds
+abbrev pub columns : VoteGraph → Columns
+columns g =
+    record { used = g .used; above = g .above; rows = words-of (g .rows); order = g .order; listed = g .listed; heads = g .heads; tips = g .tips }
+
+abbrev pub graph-of : ℕ → Columns → VoteGraph
+graph-of base c =
+    record {
+      base = base;
+      used = c .used;
+      above = c .above;
+      rows = rows-of (c .rows);
+      order = c .order;
+      listed = c .listed;
+      heads = c .heads;
+      tips = c .tips;
+    }
+
+-- arrays of 256, rows of two words, which the types say of a graph in code
+unfoldable pub sized : Columns → Bool
+sized c =
+    eqb (length (c .used)) 256
+    && (eqb (length (c .above)) 256
+    && (eqb (length (c .rows)) 256
+    && (all 256 (λ k. eqb (length (row (c .rows) k)) 2) && (eqb (length (c .order)) 256 && eqb (length (c .heads)) 256))))
+
+-- the table keeps its shape rules, and the graph its own on that table
+unfoldable pub is-graph : VoteGraph → BlockTable → Bool
+is-graph g t = tabled t && (sized (columns g) && graphed (t .parents) (t .ids) (g .base) (t .count) (columns g))
+
+-- a block of the table, at or below the base of a graph that keeps its shape there
+pub record Standing (g : VoteGraph) (t : BlockTable) (k : ℕ) : Type 0 where
+  pub shaped : T (is-graph g t)
+  pub inside : k < t .count
+  pub in-base : T (below (col (t .parents)) (g .base) k)

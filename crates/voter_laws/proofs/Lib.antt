@@ -1,0 +1,5 @@
+pub mod Goods
+pub mod Lookups
+pub mod Made
+pub mod Orders
+pub mod Examples
