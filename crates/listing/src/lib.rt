@@ -9,9 +9,9 @@ ghost use mathlib.Core.Bool.{Bool};
 ghost use Rattle.loops.specs.Listing.{front};
 ghost use Rattle.listing.specs.Entries.{counting, finalizes, suits, wants};
 ghost use Rattle.listing.specs.Written.{phase-of, chosen, pair-of, record-of, Lent, written};
+use climbs::wide;
 use context::Phase;
 use nodes::Places;
-use climbs::wide;
 use tracker::Pair;
 use tracker::VoteMultiplicity;
 

@@ -44,7 +44,7 @@ module _ (v : Votes) (s : length (v .times) ≡ 128) (entries : List ℕ) (count
 
   -- a pair that is not recorded leaves room
   pub written-room : Written v entries count → (j : ℕ) → j < 128 → col (v .times) j < 2 → count < 256
-  written-room w j h l = omega (arith, length-front count entries, pigeon 256 (2 * j + 1 ∷ front count entries) each)
+  written-room w j h l = omega (arith, length-front count entries, pigeon 256 ((2 * j + 1) ∷ front count entries) each)
     where
       missing : (has-pair v (2 * j + 1)) ≡ false
       missing =
@@ -62,12 +62,12 @@ module _ (v : Votes) (s : length (v .times) ≡ 128) (entries : List ℕ) (count
           go (yes t) = pair-in v s x t
           go (no t) = absurd (let z : times x (front count entries) ≡ 0 = (rw (false-not (has-pair v x) t) at (w .each x)) in omega arith)
 
-      each : (x : ℕ) → 0 < times x (2 * j + 1 ∷ front count entries) → (x < 256) × (times x (2 * j + 1 ∷ front count entries) ≤ 1)
+      each : (x : ℕ) → 0 < times x ((2 * j + 1) ∷ front count entries) → (x < 256) × (times x ((2 * j + 1) ∷ front count entries) ≤ 1)
       each x p = go (ℕ-discrete (2 * j + 1) x)
         where
-          go : Dec (2 * j + 1 ≡ x) → (x < 256) × (times x (2 * j + 1 ∷ front count entries) ≤ 1)
+          go : Dec (2 * j + 1 ≡ x) → (x < 256) × (times x ((2 * j + 1) ∷ front count entries) ≤ 1)
           go (yes e) =
-              subst (λ (y : ℕ). (y < 256) × (times y (2 * j + 1 ∷ front count entries) ≤ 1)) e
+              subst (λ (y : ℕ). (y < 256) × (times y ((2 * j + 1) ∷ front count entries) ≤ 1)) e
               (omega arith, omega (arith, times-here (2 * j + 1) (front count entries), none))
           go (no n) =
               let z = times-past x (2 * j + 1) (front count entries) n in
@@ -159,7 +159,7 @@ module _ (size : ℕ) (v : Votes) (w : Wide v) (j : ℕ) (h : j < 128) (l : j < 
 
       no-first : (i : ℕ) → col (set (v .times) j 1) i ≡ 0 → Dec (i ≡ j)
           → (col (set (v .places) j place) i ≡ 0) × (col (set (v .signatures) j signature) i ≡ 0)
-      no-first i z (yes e) = absurd (let q : col (set (v .times) j 1) j ≡ 0 = (rw (← e) z) in omega (arith, here))
+      no-first i z (yes e) = absurd (let q = subst (λ (m : ℕ). col (set (v .times) j 1) m ≡ 0) e z in omega (arith, here))
       no-first i z (no d) =
           let r = t .no-first i (sym (other i d) ∙ z) in
           (getD-set-other (v .places) j i place 0 d ∙ r .0, getD-set-other (v .signatures) j i signature 0 d ∙ r .1)
@@ -189,12 +189,12 @@ module _ (size : ℕ) (v : Votes) (w : Wide v) (j : ℕ) (h : j < 128) (l : j < 
       few i (no d) = rw (other i d) (t .few i)
 
       no-first : (i : ℕ) → col (set (v .times) j 2) i ≡ 0 → Dec (i ≡ j) → (col (v .places) i ≡ 0) × (col (v .signatures) i ≡ 0)
-      no-first i z (yes e) = absurd (let q : col (set (v .times) j 2) j ≡ 0 = (rw (← e) z) in omega (arith, here))
+      no-first i z (yes e) = absurd (let q = subst (λ (m : ℕ). col (set (v .times) j 2) m ≡ 0) e z in omega (arith, here))
       no-first i z (no d) = t .no-first i (sym (other i d) ∙ z)
 
       no-second : (i : ℕ) → col (set (v .times) j 2) i ≤ 1 → Dec (i ≡ j)
           → (col (set (v .targets) j target) i ≡ 0) × (col (set (v .numbers) j number) i ≡ 0) × (col (set (v .seconds) j signature) i ≡ 0)
-      no-second i z (yes e) = absurd (let q : col (set (v .times) j 2) j ≤ 1 = (rw (← e) z) in omega (arith, here))
+      no-second i z (yes e) = absurd (let q = subst (λ (m : ℕ). col (set (v .times) j 2) m ≤ 1) e z in omega (arith, here))
       no-second i z (no d) =
           let r = t .no-second i (subst (λ (m : ℕ). m ≤ 1) (other i d) z) in (
             getD-set-other (v .targets) j i target 0 d ∙ r .0,

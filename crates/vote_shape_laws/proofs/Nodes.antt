@@ -59,9 +59,11 @@ module _ (base : ℕ) (used : List Bool) (v : Votes) (s : length (v .times) ≡ 
       go : T (eqb x base) ⊎ T (any 128 (aims (v .times) (v .places) x)) → (j : ℕ) × Targets (cast v j) x
       go (inl e) = absurd (n (eqb→eq x base e))
       go (inr a) =
-          let r = any-at (aims (v .times) (v .places) x) 128 a in
-          (r .0, cast-aim v (r .0) x (ltb→lt 0 (col (v .times) (r .0)) (left-of (ltb 0 (col (v .times) (r .0))) _ (r .2)))
-          (eqb→eq (col (v .places) (r .0)) x (right-of (ltb 0 (col (v .times) (r .0))) _ (r .2))))
+          let r = any-at (aims (v .times) (v .places) x) 128 a in (
+            r .0,
+            cast-aim v (r .0) x (ltb→lt 0 (col (v .times) (r .0)) (left-of (ltb 0 (col (v .times) (r .0))) _ (r .2)))
+                (eqb→eq (col (v .places) (r .0)) x (right-of (ltb 0 (col (v .times) (r .0))) _ (r .2))),
+          )
 
   says-noted : (x : ℕ) → (x ≢ base → (j : ℕ) × Targets (cast v j) x) → T (noted base (v .times) (v .places) x)
   says-noted x f = go (ℕ-discrete x base)
