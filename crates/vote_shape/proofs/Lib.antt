@@ -1,4 +1,2 @@
 pub mod Tidies
 pub mod Marks
-pub mod Sames
-pub mod Joins

@@ -13,7 +13,8 @@ use borrow.Author.Tests.{eq-eqb, ne-eqb, lt-ltb, le-ltb}
 use Rattle.loops.specs.All.{any}
 use Rattle.loops.proofs.Alls.{any-none, any-more}
 use Rattle.nodes.specs.Nodes.{col, flag}
-use Rattle.vote_shape.specs.Voted.{aims, marks, noted}
+use Rattle.vote_bits.specs.Told.{aims}
+use Rattle.vote_shape.specs.Voted.{marks}
 
 module _ (p : ℕ → Bool) where
   pub length-marks : (n : ℕ) → length (marks n p) ≡ n

@@ -2,17 +2,14 @@
 -- sizes; vote-nodes are the base and the targets of first votes, one each and no others; history one entry for each recorded
 -- pair; node bits (first votes only) and equivocator bits as the recorded votes say; unused places 0. Index j of the columns
 -- of votes is 2p for the prevotes of the voter at place p and 2p + 1 for its precommits, as its bits are.
-use mathlib.Core.Bool.{Bool, not, _&&_, _||_, Bool·beq}
+use mathlib.Core.Bool.{Bool, not, _&&_, _||_}
 use mathlib.Core.List.{List, [], _∷_, _++_}
-use mathlib.Core.Path.{_≡_}
-use Prim.Native.Nat.{ℕ, zero, suc, _/_, _%_, _<_}
+use Prim.Native.Nat.{ℕ, zero, suc, _/_, _%_}
 use lib.Dec.{eqb, leb, ltb}
-use lib.ListN.{length}
 use Rattle.loops.specs.All.{all, any}
-use Rattle.grandpa.specs.Tree.{below}
-use Rattle.bitfield.specs.Bits.{has}
-use Rattle.nodes.specs.Nodes.{col, flag, row}
+use Rattle.nodes.specs.Nodes.{col, flag}
 use Rattle.graph_lists.specs.Listed.{laid}
+use Rattle.vote_bits.specs.Told.{aims, told, doubled}
 use Rattle.tracker.specs.declared.Votes.{Votes}
 
 -- no, one or two pairs, and none of a voter past the last
@@ -36,14 +33,6 @@ tidy-at size v j =
 unfoldable pub tidy : ℕ → Votes → Bool
 tidy size v = all 128 (tidy-at size v)
 
--- the first vote at index j is for block x
-abbrev pub aims : List ℕ → List ℕ → ℕ → ℕ → Bool
-aims counts places x j = ltb 0 (col counts j) && eqb (col places j) x
-
--- or for one below it
-abbrev pub lies : List ℕ → List ℕ → List ℕ → ℕ → ℕ → Bool
-lies parents counts places x j = ltb 0 (col counts j) && below (col parents) x (col places j)
-
 -- the places below n, those that pass a test marked
 unfoldable pub marks : ℕ → (ℕ → Bool) → List Bool
 marks zero p = []
@@ -66,18 +55,6 @@ unfoldable pub noded : ℕ → List Bool → List ℕ → List ℕ → Bool
 noded base used counts places =
     flag used base && (targets-used used counts places && only-marked used (marks 256 (noted base counts places)))
 
--- the bits of a set are the indices that pass a test
-abbrev pub same-bits : List ℕ → (ℕ → Bool) → Bool
-same-bits bits p = all 128 (λ j. Bool·beq (has bits j) (p j))
-
--- a node's bits are the first votes for it and for blocks below it
-unfoldable pub told : List ℕ → List Bool → List (List ℕ) → List ℕ → List ℕ → Bool
-told parents used rows counts places = all 256 (λ x. not (flag used x) || same-bits (row rows x) (lies parents counts places x))
-
--- the equivocators' bits are those of two pairs
-unfoldable pub doubled : List ℕ → List ℕ → Bool
-doubled counts equivocations = same-bits equivocations (λ j. ltb 1 (col counts j))
-
 -- an entry of the history stands for the first or second pair of an index, and this pair is recorded
 abbrev pub paired : List ℕ → ℕ → Bool
 paired counts e = ltb (e % 2) (col counts (e / 2))
@@ -93,9 +70,3 @@ voted size parents base used rows v equivocations entries count =
     && (noded base used (v .times) (v .places)
     && (told parents used rows (v .times) (v .places)
     && (doubled (v .times) equivocations && written (v .times) entries count)))
-
--- rows of two words whose bits are the indices that pass a test
-pub record Held (rows : List (List ℕ)) (p : ℕ → ℕ → Bool) : Type 0 where
-  pub sized : length rows ≡ 256
-  pub words : (x : ℕ) → x < 256 → length (row rows x) ≡ 2
-  pub says : (x : ℕ) → x < 256 → (j : ℕ) → j < 128 → has (row rows x) j ≡ p x j

@@ -1,12 +1,11 @@
 // The shape rules that tie recorded votes, vote-nodes, node bits, equivocator bits and history together, tested on lent columns
-// in linear time: one sweep up the table joins the bits of first votes, since parents are earlier.
+// in linear time.
 ghost use mathlib.Core.Path.{_≡_};
-ghost use mathlib.Core.Bool.{false, not, _||_};
-ghost use Prim.Native.Nat.{_<_, _%_};
+ghost use mathlib.Core.Bool.{not, _||_};
+ghost use Prim.Native.Nat.{_%_};
 ghost use lib.Dec.{leb, ltb};
-ghost use Rattle.bitfield.specs.Bits.{has};
-ghost use Rattle.nodes.specs.Nodes.{col, Falls};
-ghost use Rattle.vote_shape.specs.Voted.{counted, first-clear, second-clear, tidy, lies, marks, noted, targets-used, only-marked, noded, same-bits, told, doubled, paired, written, voted, Held};
+ghost use Rattle.nodes.specs.Nodes.{Falls};
+ghost use Rattle.vote_shape.specs.Voted.{counted, first-clear, second-clear, tidy, marks, noted, targets-used, only-marked, noded, paired, written, voted};
 use climbs::wide;
 
 // Whether the recorded votes of `size` voters and what is kept beside them keep their shape rules.
@@ -35,10 +34,10 @@ pub fn is_voted<'a>(
     if !noded(base, used, times, places) {
         return false;
     }
-    if !told(parents, used, rows, times, places) {
+    if !vote_bits::told(parents, used, rows, times, places) {
         return false;
     }
-    if !doubled(times, equivocations) {
+    if !vote_bits::doubled(times, equivocations) {
         return false;
     }
     written(times, entries, count)
@@ -177,88 +176,6 @@ fn is_marked(node: bool, mark: bool) -> bool
         return true;
     }
     mark
-}
-
-fn told<'a>(
-    parents: &'a [u8; 256],
-    used: &'a [bool; 256],
-    rows: &'a [[u64; 2]; 256],
-    times: &'a [u8; 128],
-    places: &'a [u8; 128],
-) -> bool
-    requires { ⌜ Falls (now parents) ⌝ }
-    ensures { λ r. ⌜ r ≡ told (now (parents .entry)) (now (used .entry)) (now (rows .entry)) (now (times .entry)) (now (places .entry)) ⌝ }
-{
-    let mut joined = [[0u64; 2]; 256];
-    join_votes(parents, times, places, &mut joined);
-    for x in 0..256 {
-        if !is_told(used[x], rows[x], joined[x]) {
-            return false;
-        }
-    }
-    true
-}
-
-// Every first vote's bit at its target, and from there in every block above.
-fn join_votes<'a>(
-    parents: &'a [u8; 256],
-    times: &'a [u8; 128],
-    places: &'a [u8; 128],
-    rows: &'a mut [[u64; 2]; 256],
-)
-    requires { ⌜ (Falls (now parents)) × (Held (now rows) (λ x j. false)) ⌝ }
-    ensures { λ _. ⌜ Held (now (rows .exit)) (lies (now (parents .entry)) (now (times .entry)) (now (places .entry))) ⌝ }
-{
-    for j in 0..128 {
-        if times[j] == 0 {
-            continue;
-        }
-        let at = wide(places[j]);
-        let bits = rows[at];
-        let more = bitfield::set_bit(bits, j);
-        rows[at] = more;
-    }
-    let mut low = 255;
-    while 0 < low {
-        let over = wide(parents[low]);
-        let bits = rows[low];
-        let above = rows[over];
-        let more = bitfield::merge(above, bits);
-        rows[over] = more;
-        low = low - 1;
-    }
-}
-
-fn is_told(node: bool, bits: [u64; 2], first: [u64; 2]) -> bool
-    ensures { λ r. ⌜ r ≡ not node || same-bits bits (has first) ⌝ }
-{
-    if !node {
-        return true;
-    }
-    same_bits(bits, first)
-}
-
-fn same_bits(a: [u64; 2], b: [u64; 2]) -> bool
-    ensures { λ r. ⌜ r ≡ same-bits a (has b) ⌝ }
-{
-    if a[0] != b[0] {
-        return false;
-    }
-    a[1] == b[1]
-}
-
-fn doubled(times: &[u8; 128], equivocations: [u64; 2]) -> bool
-    ensures { λ r. ⌜ r ≡ doubled (now (times .entry)) equivocations ⌝ }
-{
-    let mut bits = [0u64; 2];
-    for j in 0..128 {
-        if times[j] <= 1 {
-            continue;
-        }
-        let more = bitfield::set_bit(bits, j);
-        bits = more;
-    }
-    same_bits(equivocations, bits)
 }
 
 fn written<'a>(times: &'a [u8; 128], entries: &'a [u8; 256], count: usize) -> bool

@@ -14,7 +14,7 @@ use Rattle.graph.specs.Shape.{Targets}
 use Rattle.nodes.specs.Nodes.{col}
 use Rattle.tracker.specs.declared.Votes.{Votes}
 use Rattle.tracker.specs.Recorded.{cast-of, cast}
-use Rattle.vote_shape.proofs.Sames.{beq-refl}
+use Rattle.vote_bits.proofs.Sames.{beq-refl}
 
 pub past : (xs : List ℕ) (n j : ℕ) → length xs ≡ n → n ≤ j → col xs j ≡ 0
 past xs n j s h = List·getD-eq-default xs 0 (omega arith)

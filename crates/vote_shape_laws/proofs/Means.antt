@@ -6,7 +6,8 @@ use Prim.Native.Nat.{ℕ}
 use lib.Dec.{T}
 use Rattle.loops.proofs.Tests.{T-true, true-T, both, left-of, right-of}
 use Rattle.tracker.specs.declared.Votes.{Votes}
-use Rattle.vote_shape.specs.Voted.{tidy, noded, told, doubled, written, voted}
+use Rattle.vote_bits.specs.Told.{told, doubled}
+use Rattle.vote_shape.specs.Voted.{tidy, noded, written, voted}
 use Rattle.vote_shape_laws.specs.Recorded.{Recorded, Wide, Beside}
 use Rattle.vote_shape_laws.proofs.Tidies.{tidy-says, says-tidy}
 use Rattle.vote_shape_laws.proofs.Nodes.{noded-says, says-noded, told-says, says-told, doubled-says, says-doubled}

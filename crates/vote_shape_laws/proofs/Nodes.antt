@@ -19,9 +19,10 @@ use Rattle.graph.specs.Shape.{Targets, Bits, Voted}
 use Rattle.nodes.specs.Nodes.{col, flag, row}
 use Rattle.tracker.specs.declared.Votes.{Votes}
 use Rattle.tracker.specs.Recorded.{cast}
-use Rattle.vote_shape.specs.Voted.{aims, lies, marks, noted, targets-used, only-marked, noded, same-bits, told, doubled}
+use Rattle.vote_bits.specs.Told.{aims, lies, same-bits, told, doubled}
+use Rattle.vote_shape.specs.Voted.{marks, noted, targets-used, only-marked, noded}
 use Rattle.vote_shape.proofs.Marks.{length-marks, marks-at}
-use Rattle.vote_shape.proofs.Sames.{beq-eq}
+use Rattle.vote_bits.proofs.Sames.{beq-eq}
 use Rattle.vote_shape_laws.proofs.Casts.{past, eq-beq, lands-cast, twice-cast, aim-cast, cast-aim, spoken-in}
 
 -- a marked place is within the column

@@ -7,10 +7,10 @@ use Rattle.vote_shape.proofs.is_voted.Statement.{statement}
 use Rattle.vote_shape.proofs.is_voted.Tie as tie
 use Rattle.vote_shape.proofs.is_voted.Reads as reads
 use Rattle.vote_shape.proofs.is_voted.Lts as lts
-use Rattle.vote_shape.proofs.doubled.Reads as doubled-reads
+use Rattle.vote_bits.proofs.doubled.Reads as doubled-reads
 use Rattle.vote_shape.proofs.noded.Reads as noded-reads
 use Rattle.vote_shape.proofs.tidy.Reads as tidy-reads
-use Rattle.vote_shape.proofs.told.Reads as told-reads
+use Rattle.vote_bits.proofs.told.Reads as told-reads
 use Rattle.vote_shape.proofs.written.Reads as written-reads
 
 -- src/lib.rt:32:9

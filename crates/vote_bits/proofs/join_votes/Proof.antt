@@ -4,12 +4,12 @@ use mathlib.Core.Path.{_≡_, sym}
 use Prim.Native.Nat.{_≤_, _<_, _-_}
 use native.Mathlib.Omega.{arith}
 use Rattle.nodes.specs.Nodes.{Falls}
-use Rattle.vote_shape.specs.Voted.{Held}
-use Rattle.vote_shape.proofs.Joins.{sofar, cast-none, cast-skip, cast-put, Small, small-none, small-skip, small-next, lifted, lift-start, lift-next, lift-end}
-use Rattle.vote_shape.proofs.join_votes.Statement.{statement}
-use Rattle.vote_shape.proofs.join_votes.Tie as tie
-use Rattle.vote_shape.proofs.join_votes.Reads as reads
-use Rattle.vote_shape.proofs.join_votes.Lts as lts
+use Rattle.vote_bits.specs.Told.{Held}
+use Rattle.vote_bits.proofs.Joins.{sofar, cast-none, cast-skip, cast-put, Small, small-none, small-skip, small-next, lifted, lift-start, lift-next, lift-end}
+use Rattle.vote_bits.proofs.join_votes.Statement.{statement}
+use Rattle.vote_bits.proofs.join_votes.Tie as tie
+use Rattle.vote_bits.proofs.join_votes.Reads as reads
+use Rattle.vote_bits.proofs.join_votes.Lts as lts
 use Rattle.bitfield.proofs.merge.Reads as merge-reads
 use Rattle.bitfield.proofs.set_bit.Reads as set-bit-reads
 use Rattle.climbs.proofs.wide.Reads as wide-reads

@@ -16,7 +16,7 @@ use Rattle.loops.proofs.Alls.{all-at, all-intro, all-cong}
 use Rattle.bitfield.specs.Bits.{has, put}
 use Rattle.bitfield.proofs.Sets.{Fits, has-none, has-put, length-put, set-ext}
 use Rattle.nodes.specs.Nodes.{col}
-use Rattle.vote_shape.specs.Voted.{same-bits}
+use Rattle.vote_bits.specs.Told.{same-bits}
 
 pub beq-eq : (a b : Bool) → T (Bool·beq a b) → a ≡ b
 beq-eq true true t = refl

@@ -3,13 +3,13 @@ use mir.Val.{Fits}
 use mir.Syntax.{w64}
 use native.Mathlib.Omega.{arith}
 use lib.ListN.{getD, length}
-use Rattle.vote_shape.proofs.Sames.{fits-two, other-words, same-words}
+use Rattle.vote_bits.proofs.Sames.{fits-two, other-words, same-words}
 use borrow.Author.Needs.{needs}
 use borrow.Author.Needs.{needs}
-use Rattle.vote_shape.proofs.same_bits.Statement.{statement}
-use Rattle.vote_shape.proofs.same_bits.Tie as tie
-use Rattle.vote_shape.proofs.same_bits.Reads as reads
-use Rattle.vote_shape.proofs.same_bits.Lts as lts
+use Rattle.vote_bits.proofs.same_bits.Statement.{statement}
+use Rattle.vote_bits.proofs.same_bits.Tie as tie
+use Rattle.vote_bits.proofs.same_bits.Reads as reads
+use Rattle.vote_bits.proofs.same_bits.Lts as lts
 
 -- src/lib.rt:249:8
 array-read-if1 : tie.Need-array-read-if1

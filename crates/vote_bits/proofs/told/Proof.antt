@@ -10,14 +10,14 @@ use lib.ListN.{getD}
 use borrow.Author.Tests.{not-true, not-false}
 use Rattle.loops.specs.All.{all}
 use Rattle.loops.proofs.Alls.{all-none, all-more, all-false}
-use Rattle.vote_shape.specs.Voted.{lies, same-bits, told}
-use Rattle.vote_shape.proofs.Joins.{told-turn, held-none}
-use Rattle.vote_shape.proofs.told.Statement.{statement}
-use Rattle.vote_shape.proofs.told.Tie as tie
-use Rattle.vote_shape.proofs.told.Reads as reads
-use Rattle.vote_shape.proofs.told.Lts as lts
-use Rattle.vote_shape.proofs.is_told.Reads as is-told-reads
-use Rattle.vote_shape.proofs.join_votes.Reads as join-votes-reads
+use Rattle.vote_bits.specs.Told.{lies, same-bits, told}
+use Rattle.vote_bits.proofs.Joins.{told-turn, held-none}
+use Rattle.vote_bits.proofs.told.Statement.{statement}
+use Rattle.vote_bits.proofs.told.Tie as tie
+use Rattle.vote_bits.proofs.told.Reads as reads
+use Rattle.vote_bits.proofs.told.Lts as lts
+use Rattle.vote_bits.proofs.is_told.Reads as is-told-reads
+use Rattle.vote_bits.proofs.join_votes.Reads as join-votes-reads
 
 abbrev Inv-loop : tie.InvT-loop
 Inv-loop parents used rows times places joined x₀ x = (x ≤ 256) × (all x (λ k. not (getD used k false) || same-bits (getD rows k []) (lies parents times places k)) ≡ true)

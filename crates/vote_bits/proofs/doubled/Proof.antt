@@ -6,14 +6,14 @@ use lib.Dec.{ltb}
 use lib.ListN.{getD}
 use mathlib.Core.Path.{_∙_}
 use borrow.Author.Tests.{lt-ltb, le-ltb}
-use Rattle.vote_shape.specs.Voted.{doubled}
-use Rattle.vote_shape.proofs.Sames.{Put, put-none, put-skip, put-next, put-all}
-use Rattle.vote_shape.proofs.doubled.Statement.{statement}
-use Rattle.vote_shape.proofs.doubled.Tie as tie
-use Rattle.vote_shape.proofs.doubled.Reads as reads
-use Rattle.vote_shape.proofs.doubled.Lts as lts
+use Rattle.vote_bits.specs.Told.{doubled}
+use Rattle.vote_bits.proofs.Sames.{Put, put-none, put-skip, put-next, put-all}
+use Rattle.vote_bits.proofs.doubled.Statement.{statement}
+use Rattle.vote_bits.proofs.doubled.Tie as tie
+use Rattle.vote_bits.proofs.doubled.Reads as reads
+use Rattle.vote_bits.proofs.doubled.Lts as lts
 use Rattle.bitfield.proofs.set_bit.Reads as set-bit-reads
-use Rattle.vote_shape.proofs.same_bits.Reads as same-bits-reads
+use Rattle.vote_bits.proofs.same_bits.Reads as same-bits-reads
 
 abbrev Inv-loop : tie.InvT-loop
 Inv-loop times equivocations bits₀ j₀ bits j = (j ≤ 128) × Put bits (λ i. ltb 1 (getD times i 0)) j

@@ -1,11 +1,11 @@
 use borrow.Author.Needs.{needs}
 use borrow.Author.Tests.{not-false}
 use borrow.Author.Needs.{needs}
-use Rattle.vote_shape.proofs.is_told.Statement.{statement}
-use Rattle.vote_shape.proofs.is_told.Tie as tie
-use Rattle.vote_shape.proofs.is_told.Reads as reads
-use Rattle.vote_shape.proofs.is_told.Lts as lts
-use Rattle.vote_shape.proofs.same_bits.Reads as same-bits-reads
+use Rattle.vote_bits.proofs.is_told.Statement.{statement}
+use Rattle.vote_bits.proofs.is_told.Tie as tie
+use Rattle.vote_bits.proofs.is_told.Reads as reads
+use Rattle.vote_bits.proofs.is_told.Lts as lts
+use Rattle.vote_bits.proofs.same_bits.Reads as same-bits-reads
 
 -- src/lib.rt:241:9
 returns : tie.Need-returns

@@ -21,8 +21,8 @@ use Rattle.graph.specs.Search.{nearest}
 use Rattle.graph.specs.Graph.{no-bits}
 use Rattle.graph.proofs.Climbs.{until-here, Nearest, nearest-says}
 use Rattle.nodes.specs.Nodes.{col, flag, row, Falls}
-use Rattle.vote_shape.specs.Voted.{aims, lies, same-bits, Held}
-use Rattle.vote_shape.proofs.Sames.{upto, upto-none, upto-all, upto-skip, upto-put}
+use Rattle.vote_bits.specs.Told.{aims, lies, same-bits, Held}
+use Rattle.vote_bits.proofs.Sames.{upto, upto-none, upto-all, upto-skip, upto-put}
 
 pub held-cong : (rows : List (List ℕ)) (p q : ℕ → ℕ → Bool) → ((x : ℕ) → x < 256 → (j : ℕ) → j < 128 → p x j ≡ q x j) → Held rows p → Held rows q
 held-cong rows p q f s = record { sized = s .sized; words = s .words; says = λ x h j l. s .says x h j l ∙ f x h j l }
