@@ -46,7 +46,7 @@ length-without n (x ∷ l) = go (ℕ-discrete x n) (length-without n l)
     go (yes e) r = rw (eq-eqb x n e, e, times-here n l) (omega arith)
     go (no d) r = rw (ne-eqb x n d, times-past n x l d) (omega arith)
 
-pigeon : (n : ℕ) (l : List ℕ) → ((x : ℕ) → 0 < times x l → (x < n) × (times x l ≤ 1)) → length l ≤ n
+pub pigeon : (n : ℕ) (l : List ℕ) → ((x : ℕ) → 0 < times x l → (x < n) × (times x l ≤ 1)) → length l ≤ n
 pigeon zero [] each = omega arith
 pigeon zero (x ∷ l) each = absurd (omega (arith, each x (omega (arith, times-here x l)) .0))
 pigeon (suc n) l each =

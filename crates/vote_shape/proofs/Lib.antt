@@ -1,0 +1,2 @@
+pub mod Tidies
+pub mod Marks

@@ -1,0 +1,6 @@
+pub mod Casts
+pub mod Tidies
+pub mod Nodes
+pub mod Histories
+pub mod Means
+pub mod Keeps
