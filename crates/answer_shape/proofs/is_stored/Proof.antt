@@ -1,6 +1,5 @@
 use mathlib.Core.Path.{_≡_, refl, sym, _∙_}
 use borrow.Author.Tests.{le-ltb, lt-ltb}
-use native.Mathlib.Omega.{arith}
 use borrow.Author.Needs.{needs}
 use Rattle.answer_shape.proofs.is_stored.Statement.{statement}
 use Rattle.answer_shape.proofs.is_stored.Tie as tie
@@ -19,7 +18,7 @@ wide-requires c κs = search needs
 
 -- src/lib.rt:17:17
 returns : tie.Need-returns
-returns c = rw (c .before .before .before .block .given .1, le-ltb _ _ (let h : c .before .wide .result ≡ c .before .before .before .block .given .0 .0 = c .before .wide .ensures .0 in omega (arith, c .if1 .taken)))
+returns c = rw (c .before .before .before .block .given .1, sym (c .before .wide .ensures .0), le-ltb _ _ (c .if1 .taken))
 
 -- src/lib.rt:19:13
 reaches-requires : tie.Need-reaches-requires
@@ -31,7 +30,7 @@ enum-told c = search needs
 
 -- src/lib.rt:10:1
 returns-2 : tie.Need-returns-2
-returns-2 c = rw (c .before .before .before .before .block .given .1, lt-ltb _ _ (let h : c .before .before .wide .result ≡ c .before .before .before .before .block .given .0 .0 = c .before .before .wide .ensures .0 in omega (arith, c .before .if1 .left))) (c .reaches .ensures)
+returns-2 c = rw (c .before .before .before .before .block .given .1, sym (c .reaches .ensures), sym (c .before .before .wide .ensures .0), lt-ltb _ _ (c .before .if1 .left))
 
 -- src/lib.rt:10:1
 returns-3 : tie.Need-returns-3
