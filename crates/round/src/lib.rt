@@ -307,12 +307,13 @@ impl Round {
             parent,
         );
         let count = blocks::counted(table.count, answer);
-        self.table = BlockTable {
+        let now_table = BlockTable {
             ids,
             numbers,
             parents,
             count,
         };
+        self.table = now_table;
         Grown {
             answer,
             round: self,
@@ -392,11 +393,12 @@ impl Round {
         let prevoted = history.prevoted;
         let precommitted = history.precommitted;
         let rows = graph_rows::rows_of(&words);
-        self.context = Context {
+        let now_context = Context {
             voters,
             equivocations: equivocators,
         };
-        self.graph = VoteGraph {
+        self.context = now_context;
+        let now_graph = VoteGraph {
             base,
             used,
             above,
@@ -406,7 +408,8 @@ impl Round {
             heads,
             tips: after.tips,
         };
-        self.votes = Votes {
+        self.graph = now_graph;
+        let now_votes = Votes {
             times,
             places,
             signatures,
@@ -414,12 +417,14 @@ impl Round {
             numbers,
             seconds,
         };
-        self.history = History {
+        self.votes = now_votes;
+        let now_history = History {
             entries,
             count: after.count,
             prevoted,
             precommitted,
         };
+        self.history = now_history;
         self.heard = told;
         self.answers = answers;
         Imported {
@@ -503,13 +508,14 @@ impl Round {
         let prevote = stored.prevote;
         let finalized = stored.finalized;
         let estimate = stored.estimate;
-        self.answers = Answers {
+        let now_answers = Answers {
             prevote,
             precommit: found,
             finalized,
             estimate,
             completable: stored.completable,
         };
+        self.answers = now_answers;
         Asked {
             answer,
             round: self,
