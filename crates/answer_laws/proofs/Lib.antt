@@ -4,3 +4,8 @@ pub mod Telling
 pub mod Kept
 pub mod Ghosted
 pub mod Imports
+pub mod Stays
+pub mod Opened
+pub mod Recorded
+pub mod Imported
+pub mod Extended

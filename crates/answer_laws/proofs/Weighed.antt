@@ -11,7 +11,7 @@ use Rattle.grandpa.specs.Vote as meant
 use Rattle.grandpa.specs.Vote.{Vote, silent, once, twice, total, equivocated, backs, lands, equivocators, phase-weight}
 use Rattle.grandpa.specs.Possible.{possible-at}
 use Rattle.grandpa.proofs.Numbers.{possible-asked}
-use Rattle.voter_set.proofs.Goods.{total-used}
+use Rattle.voter_laws.proofs.Goods.{total-used}
 use Rattle.context.specs.declared.Phase.{Phase}
 use Rattle.context.specs.declared.Phase.the-variants.{Precommit}
 use Rattle.context.specs.Votes.{bit, voted, weightOf}

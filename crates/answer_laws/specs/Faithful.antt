@@ -6,7 +6,7 @@ use mathlib.Core.Option.{Option, none, some}
 use mathlib.Core.Path.{_≡_}
 use Prim.Native.Nat.{ℕ, _≤_, _<_}
 use lib.Dec.{T}
-use lib.ListN.{getD}
+use lib.ListN.{getD, length}
 use Rattle.weights.specs.Weights.{most}
 use Rattle.grandpa.specs.Tree.{Blocks, Tabled, below}
 use Rattle.grandpa.specs.Vote.{Vote, silent, Voters, heard, equivocated}
@@ -63,6 +63,7 @@ pub record Faithful (k : Setting) : Type 0 where
   pub small : k .count ≤ 256
   pub shape : Shape (col (k .parents)) (col (k .ids)) (k .base) (k .count) (k .cast) (view (k .graph))
   pub no-voter : (phase : Phase) (p : ℕ) → k .set .count ≤ p → votes k phase p ≡ silent
+  pub two-words : length (k .equivocations) ≡ 2
   pub doubled : (j : ℕ) → has (k .equivocations) j ≡ equivocated (k .cast j)
   pub prevotes-heard : k .heard .prevote ≡ heard (voters k) (votes k Prevote)
   pub precommits-heard : k .heard .precommit ≡ heard (voters k) (votes k Precommit)

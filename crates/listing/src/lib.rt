@@ -2,11 +2,9 @@
 // voter's bit, so that by rising entry is by rising voter.
 ghost use mathlib.Core.Path.{_≡_};
 ghost use Prim.Native.Nat.{_*_, _≤_, _<_};
-ghost use Rattle.loops.specs.Listing.{keep};
+ghost use Rattle.loops.specs.Listing.{front, keep};
 ghost use Rattle.context.specs.Votes.{offset};
 ghost use Rattle.nodes.specs.Nodes.{Falls, placed};
-ghost use mathlib.Core.Bool.{Bool};
-ghost use Rattle.loops.specs.Listing.{front};
 ghost use Rattle.listing.specs.Entries.{counting, finalizes, suits, wants};
 ghost use Rattle.listing.specs.Written.{phase-of, chosen, pair-of, record-of, Lent, written};
 use climbs::wide;

@@ -3,7 +3,7 @@ use mathlib.Core.Bool.{Bool, true, false, cond, not, _&&_, _||_}
 use mathlib.Core.List.{List, [], _∷_}
 use mathlib.Core.Path.{_≡_, refl, sym, ap, subst, _∙_}
 use mathlib.Core.Logic.{_≢_}
-use Prim.Native.Nat.{ℕ, zero, suc, _≤_, _<_}
+use Prim.Native.Nat.{ℕ, zero, suc, _<_}
 use native.Mathlib.Omega.{arith}
 use lib.Dec.{T, eqb, T-not}
 use lib.ListN.{getD, replicate, getD-replicate}
@@ -18,7 +18,7 @@ use Rattle.graph.specs.Graph.{Graph, no-bits, join-of, add-node, mark}
 use Rattle.graph.specs.Shape.{Holds}
 use Rattle.graph.proofs.Climbs.{holds-past}
 use Rattle.nodes.specs.Nodes.{col, flag, row}
-use Rattle.nodes.specs.Columns.{Columns, Sound, view}
+use Rattle.nodes.specs.Columns.{Columns, Sound}
 use Rattle.graph_shape.specs.Graphed.{Clear}
 use Rattle.vote_insert.specs.Insert.{opened, added, marked, with-rows, inserted}
 use Rattle.vote_insert.proofs.Keeps.{view-added, above-stays, sound-added, view-marked}

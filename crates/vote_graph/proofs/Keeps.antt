@@ -1,31 +1,26 @@
 -- A new graph keeps the shape rules on every table that keeps its own and has the base; a vote keeps them; a refusal hands
 -- the graph back equal.
 use mathlib.Core.Bool.{Bool, true, false, cond}
-use mathlib.Core.Path.{_≡_, refl, sym, subst, _∙_}
-use mathlib.Core.Logic.{_≢_}
+use mathlib.Core.Path.{_≡_, refl, sym, subst}
 use Prim.Native.Nat.{ℕ, _<_}
 use native.Mathlib.Omega.{arith}
 use lib.Dec.{T}
-use Rattle.loops.proofs.Tests.{T-true}
 use Rattle.blocks.specs.declared.BlockTable.{BlockTable}
 use Rattle.block_shape.specs.Shape.{tabled}
 use Rattle.block_shape.proofs.Shapes.{tabled-shaped, shaped-tabled}
-use Rattle.nodes.specs.Nodes.{col, flag}
 use Rattle.nodes.specs.Columns.{Columns, Sound}
 use Rattle.graph_shape.specs.Graphed.{Clear}
 use Rattle.vote_insert.specs.Insert.{opened, inserted}
 use Rattle.vote_insert.proofs.Keeps.{sound-inserted}
 use Rattle.vote_insert.proofs.Opens.{sound-opened}
 use Rattle.vote_graph.specs.declared.VoteGraph.{VoteGraph}
-use Rattle.vote_graph.specs.declared.Answer.{Answer}
 use Rattle.vote_graph.specs.declared.Answer.the-variants as answer
-use Rattle.vote_graph.specs.declared.Inserted.{Inserted}
-use Rattle.vote_graph.specs.declared.target.Target.{Target}
-use Rattle.vote_graph.specs.declared.target.Target.the-variants as target-is
+use Rattle.vote_graph.specs.declared.named.Target.{Target}
+use Rattle.vote_graph.specs.declared.named.Target.the-variants as target-is
 use Rattle.vote_graph.specs.Shape.{columns, graph-of, is-graph, Standing}
 use Rattle.vote_graph.specs.Target.{target, on-target}
 use Rattle.vote_graph.specs.Calls.{voted, refused, placed, insert}
-use Rattle.vote_graph.proofs.Shapes.{columns-of, Kept, table-falls, is-graph-means, means-is-graph}
+use Rattle.vote_graph.proofs.Shapes.{columns-of, table-falls, is-graph-means, means-is-graph}
 use Rattle.vote_graph.proofs.Standings.{apart-in, target-stands}
 use Rattle.vote_graph.proofs.Clears.{clear-opened, clear-inserted}
 
@@ -50,9 +45,6 @@ voted-kept g t k bit s =
     (clear-inserted (t .parents) (t .ids) (g .base) (t .count) k (s .in-base) (s .inside) (columns g) (r .sound) (r .clear) (apart-in g t k s) bit)
 
 module _ (g : VoteGraph) (t : BlockTable) (id bit : ℕ) where
-  on-found : Target → Inserted
-  on-found x = on-target x (placed g t bit) (refused g)
-
   pub insert-keeps : T (is-graph g t) → T (is-graph (insert g t id bit .graph) t)
   unfolding insert
   insert-keeps h = gate (is-graph g t) refl

@@ -1,9 +1,8 @@
 -- What the shape test of a graph on a table means, and that it is no more than that.
-use mathlib.Core.Bool.{Bool, true, false, _&&_}
+use mathlib.Core.Bool.{Bool, true, false}
 use mathlib.Core.List.{List}
-use mathlib.Core.Path.{_≡_, refl, sym, ap, subst, _∙_}
-use mathlib.Core.Logic.{_≢_}
-use Prim.Native.Nat.{ℕ, _≤_, _<_}
+use mathlib.Core.Path.{_≡_, sym, ap, subst, _∙_}
+use Prim.Native.Nat.{ℕ, _≤_}
 use native.Mathlib.Omega.{arith}
 use lib.Dec.{T, eqb, eqb→eq}
 use lib.ListN.{length}
@@ -18,14 +17,14 @@ use Rattle.columns.proofs.Padded.{length-padded}
 use Rattle.blocks.specs.declared.BlockTable.{BlockTable}
 use Rattle.block_shape.specs.Shape.{tabled, Shaped}
 use Rattle.block_shape.proofs.Shapes.{tabled-shaped}
-use Rattle.nodes.specs.Nodes.{col, flag, row, Falls}
+use Rattle.nodes.specs.Nodes.{row, Falls}
 use Rattle.nodes.specs.Columns.{Columns, Sound}
 use Rattle.graph_shape.specs.Graphed.{graphed, Sized, Clear}
 use Rattle.graph_shape.proofs.Graphs.{graphed-means, means-graphed}
-use Rattle.graph_rows.specs.Rows.{words-of, rows-of, Paired}
-use Rattle.graph_rows.proofs.Copies.{words-rows, words-size}
+use Rattle.graph_rows.specs.Rows.{words-of, Paired}
+use Rattle.graph_rows.proofs.Copies.{words-rows}
 use Rattle.vote_graph.specs.declared.VoteGraph.{VoteGraph}
-use Rattle.vote_graph.specs.Shape.{columns, graph-of, sized, is-graph, Standing}
+use Rattle.vote_graph.specs.Shape.{columns, graph-of, sized, is-graph}
 
 -- columns with other words, as the code lends them
 abbrev pub lent : VoteGraph → List (List ℕ) → Columns

@@ -17,7 +17,7 @@ use Rattle.blocks.specs.Add.{place-of, on-place}
 use Rattle.block_laws.proofs.Adds.{found-stands}
 use Rattle.graph.specs.Ghost as steps
 use Rattle.graph.specs.Graph.{tally}
-use Rattle.nodes.specs.Nodes.{col, flag, row, Falls, passes}
+use Rattle.nodes.specs.Nodes.{col, flag, Falls, passes}
 use Rattle.nodes.specs.Columns.{Columns, Sound, view, as-found}
 use Rattle.nodes.specs.declared.Found.{Found}
 use Rattle.nodes.specs.declared.Found.the-variants as found
@@ -30,8 +30,8 @@ use Rattle.vote_search.specs.declared.Tally.{Tally}
 use Rattle.vote_search.specs.Searches.{tallied, unlisted, Stands}
 use Rattle.vote_search.proofs.Ancestors.{tallied-is}
 use Rattle.vote_graph.specs.declared.VoteGraph.{VoteGraph}
-use Rattle.vote_graph.specs.declared.target.Target.{Target}
-use Rattle.vote_graph.specs.declared.target.Target.the-variants.{At, Refused}
+use Rattle.vote_graph.specs.declared.named.Target.{Target}
+use Rattle.vote_graph.specs.declared.named.Target.the-variants.{At, Refused}
 use Rattle.vote_graph.specs.Shape.{columns, graph-of, is-graph, Standing}
 use Rattle.vote_graph.specs.Target.{in-base, target, start, on-target}
 use Rattle.vote_graph.specs.Calls.{voted, tally-of, ancestor-of, ghost-of}

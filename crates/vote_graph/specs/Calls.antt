@@ -17,7 +17,6 @@ use Rattle.vote_insert.specs.Insert.{inserted}
 use Rattle.vote_search.specs.declared.Tally.{Tally}
 use Rattle.vote_search.specs.Searches.{tallied}
 use Rattle.vote_graph.specs.declared.VoteGraph.{VoteGraph}
-use Rattle.vote_graph.specs.declared.Answer.{Answer}
 use Rattle.vote_graph.specs.declared.Answer.the-variants as answer
 use Rattle.vote_graph.specs.declared.Inserted.{Inserted}
 use Rattle.vote_graph.specs.declared.Votes.{Votes}

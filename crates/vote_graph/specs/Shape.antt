@@ -1,7 +1,6 @@
 -- The vote graph by value and its shape. Document 01, "Shape rules", "Refusal numbers" 9: a graph stands on a table, and
 -- both keep their rules.
 use mathlib.Core.Bool.{Bool, _&&_}
-use mathlib.Core.Path.{_≡_}
 use Prim.Native.Nat.{ℕ, _<_}
 use lib.Dec.{T, eqb}
 use lib.ListN.{length}

@@ -9,8 +9,8 @@ use Rattle.blocks.specs.Add.{place-of, on-place}
 use Rattle.nodes.specs.Nodes.{col}
 use Rattle.nodes.specs.declared.Found.{Found}
 use Rattle.nodes.specs.declared.Found.the-variants as found
-use Rattle.vote_graph.specs.declared.target.Target.{Target}
-use Rattle.vote_graph.specs.declared.target.Target.the-variants.{At, Refused}
+use Rattle.vote_graph.specs.declared.named.Target.{Target}
+use Rattle.vote_graph.specs.declared.named.Target.the-variants.{At, Refused}
 
 unfoldable pub in-base : List ℕ → ℕ → ℕ → Target
 in-base parents base k = cond (below (col parents) base k) (At k) (Refused 13)

@@ -12,9 +12,9 @@ use nodes::Question;
 use vote_search::Tally;
 
 // Where a block stands that a call names, or why it is refused.
-pub mod target;
+pub mod named;
 
-use target::Target;
+use named::Target;
 
 // One place a block of the table. Which have a vote-node, the node above each, and its bits; all nodes but the base in the
 // order in which they were listed; the nodes that list none, by rising id. The fields are public, so that the columns can
@@ -127,7 +127,7 @@ impl VoteGraph {
                 graph: self,
             };
         }
-        match target::of(&table.ids, &table.parents, table.count, self.base, block) {
+        match named::of(&table.ids, &table.parents, table.count, self.base, block) {
             Target::Refused(number) => Inserted {
                 answer: Answer::Refused(number),
                 graph: self,
@@ -238,7 +238,7 @@ impl VoteGraph {
         if !self.is_graph(table) {
             return Sought::Refused(9);
         }
-        match target::of(&table.ids, &table.parents, table.count, self.base, block) {
+        match named::of(&table.ids, &table.parents, table.count, self.base, block) {
             Target::Refused(number) => Sought::Refused(number),
             Target::At(place) => {
                 let found = self.ancestor(table, weights, question, place);
@@ -287,7 +287,7 @@ impl VoteGraph {
         if !self.is_graph(table) {
             return Sought::Refused(9);
         }
-        match target::start(&table.parents, table.count, self.base, start) {
+        match named::start(&table.parents, table.count, self.base, start) {
             Target::Refused(number) => Sought::Refused(number),
             Target::At(place) => {
                 let found = self.heaviest(table, weights, question, place);

@@ -1,3 +1,7 @@
+use Rattle.importing.specs.Import.{import}
+use mathlib.Core.Path.{_≡_, refl, sym, _∙_}
+use native.Mathlib.Omega.{arith}
+use Rattle.importing.proofs.Turns.{first-place, first-room, first-insertable, first-grounded, second-place, second-room, second-grounded, first-done, second-done}
 use borrow.Author.Needs.{needs}
 use Rattle.importing.proofs.import.Statement.{statement}
 use Rattle.importing.proofs.import.Tie as tie
@@ -12,7 +16,7 @@ use Rattle.vote_insert.proofs.insert.Reads as insert-reads
 
 -- src/lib.rt:145:9
 judge-requires : tie.Need-judge-requires
-judge-requires c κs = search needs
+judge-requires c κs = (c .before .before .before .before .before .before .pre .sound .parents-fall, c .before .before .before .before .before .before .pre .sound .small, c .before .before .before .before .before .before .pre .voters-few)
 
 -- src/lib.rt:169:26
 enum-known-verdict : tie.Need-enum-known-verdict
@@ -24,7 +28,7 @@ enum-known-verdict-2 c = search needs
 
 -- src/lib.rt:171:17
 index-requires : tie.Need-index-requires
-index-requires c κs = ?
+index-requires c κs = first-place _ _ (c .before .before .before .before .before .before .before .before .before .before .before .before .before .pre) _ _ _ _ _ (sym (c .before .before .before .before .before .before .judge .ensures) ∙ c .before .verdict2 .given .1)
 
 -- src/lib.rt:173:13
 element-write-times : tie.Need-element-write-times
@@ -52,11 +56,11 @@ cast-entries c = search needs
 
 -- src/lib.rt:176:13
 element-write-entries : tie.Need-element-write-entries
-element-write-entries c = ?
+element-write-entries c = first-room _ _ (c .before .before .before .before .before .before .before .before .before .before .before .before .before .before .before .pre) _ _ _ _ _ (sym (c .before .before .before .before .before .before .before .before .judge .ensures) ∙ c .before .before .before .verdict2 .given .1)
 
 -- src/lib.rt:177:17
 insert-requires : tie.Need-insert-requires
-insert-requires c κs = ?
+insert-requires c κs = first-insertable _ _ (c .before .before .before .before .before .before .before .before .before .before .before .before .before .before .before .before .before .before .before .before .pre) _ _ _ _ _ (sym (c .before .before .before .before .before .before .before .before .before .before .before .before .before .judge .ensures) ∙ c .before .before .before .before .before .before .before .before .verdict2 .given .1)
 
 -- src/lib.rt:193:17
 with-heard-requires : tie.Need-with-heard-requires
@@ -64,11 +68,11 @@ with-heard-requires c κs = search needs
 
 -- src/lib.rt:194:17
 updated-requires : tie.Need-updated-requires
-updated-requires c κs = ?
+updated-requires c κs = (first-grounded _ _ (c .before .before .before .before .before .before .before .before .before .before .before .before .before .before .before .before .before .before .before .before .before .before .before .before .before .before .before .pre) _ _ _ _ _ (sym (c .before .before .before .before .before .before .before .before .before .before .before .before .before .before .before .before .before .before .before .before .judge .ensures) ∙ c .before .before .before .before .before .before .before .before .before .before .before .before .before .before .before .verdict2 .given .1) _ _ (c .before .before .before .before .before .before .insert .ensures), c .before .before .before .before .before .before .before .before .before .before .before .before .before .before .before .before .before .before .before .before .before .before .before .before .before .before .before .pre .stored)
 
 -- src/lib.rt:217:28
 add-t62 : tie.Need-add-t62
-add-t62 c = ?
+add-t62 c = omega (arith, first-room _ _ (c .before .before .before .before .before .before .before .before .before .before .before .before .before .before .before .before .before .before .before .before .before .before .before .before .before .before .before .before .pre) _ _ _ _ _ (sym (c .before .before .before .before .before .before .before .before .before .before .before .before .before .before .before .before .before .before .before .before .before .judge .ensures) ∙ c .before .before .before .before .before .before .before .before .before .before .before .before .before .before .before .before .verdict2 .given .1))
 
 -- src/lib.rt:224:25
 enum-known-verdict-3 : tie.Need-enum-known-verdict-3
@@ -76,7 +80,7 @@ enum-known-verdict-3 c = search needs
 
 -- src/lib.rt:225:17
 index-requires-2 : tie.Need-index-requires-2
-index-requires-2 c κs = ?
+index-requires-2 c κs = second-place _ _ (c .before .before .before .before .before .before .before .before .before .before .before .before .before .pre) _ _ _ _ _ (sym (c .before .before .before .before .before .before .judge .ensures) ∙ c .before .verdict3 .given .1)
 
 -- src/lib.rt:226:13
 element-write-times-2 : tie.Need-element-write-times-2
@@ -120,7 +124,7 @@ cast-entries-2 c = search needs
 
 -- src/lib.rt:230:13
 element-write-entries-2 : tie.Need-element-write-entries-2
-element-write-entries-2 c = ?
+element-write-entries-2 c = second-room _ _ (c .before .before .before .before .before .before .before .before .before .before .before .before .before .before .pre) _ _ _ _ _ (sym (c .before .before .before .before .before .before .before .judge .ensures) ∙ c .before .before .verdict3 .given .1)
 
 -- src/lib.rt:233:17
 set-bit-requires : tie.Need-set-bit-requires
@@ -128,23 +132,24 @@ set-bit-requires c κs = search needs
 
 -- src/lib.rt:234:17
 updated-requires-2 : tie.Need-updated-requires-2
-updated-requires-2 c κs = ?
+updated-requires-2 c κs = (second-grounded _ _ (c .before .before .before .before .before .before .before .before .before .before .before .before .before .before .before .before .before .before .before .before .pre) _ _ _ _ _ (sym (c .before .before .before .before .before .before .before .before .before .before .before .before .before .judge .ensures) ∙ c .before .before .before .before .before .before .before .before .verdict3 .given .1), c .before .before .before .before .before .before .before .before .before .before .before .before .before .before .before .before .before .before .before .before .pre .stored)
 
 -- src/lib.rt:263:28
 add-t82 : tie.Need-add-t82
-add-t82 c = ?
+add-t82 c = omega (arith, second-room _ _ (c .before .before .before .before .before .before .before .before .before .before .before .before .before .before .before .before .before .before .before .before .before .pre) _ _ _ _ _ (sym (c .before .before .before .before .before .before .before .before .before .before .before .before .before .before .judge .ensures) ∙ c .before .before .before .before .before .before .before .before .before .verdict3 .given .1))
 
 -- src/lib.rt:113:1
 returns : tie.Need-returns
-returns c = ?
+unfolding import
+returns c = rw (sym (c .before .before .before .before .before .before .judge .ensures) ∙ c .before .verdict .given .1)
 
 -- src/lib.rt:113:1
 returns-2 : tie.Need-returns-2
-returns-2 c = ?
+returns-2 c = first-done _ _ (c .before .before .before .before .before .before .before .before .before .before .before .before .before .before .before .before .before .before .before .before .before .before .before .before .before .before .before .before .pre) _ _ _ _ _ (sym (c .before .before .before .before .before .before .before .before .before .before .before .before .before .before .before .before .before .before .before .before .before .judge .ensures) ∙ c .before .before .before .before .before .before .before .before .before .before .before .before .before .before .before .before .verdict2 .given .1) _ (c .before .before .before .before .before .before .before .before .before .before .before .before .before .before .index .ensures .0) _ (c .before .before .before .before .before .before .before .insert .ensures) _ (c .before .before .before .before .before .before .with-heard .ensures) _ (c .updated .ensures)
 
 -- src/lib.rt:113:1
 returns-3 : tie.Need-returns-3
-returns-3 c = ?
+returns-3 c = second-done _ _ (c .before .before .before .before .before .before .before .before .before .before .before .before .before .before .before .before .before .before .before .before .before .pre) _ _ _ _ _ (sym (c .before .before .before .before .before .before .before .before .before .before .before .before .before .before .judge .ensures) ∙ c .before .before .before .before .before .before .before .before .before .verdict3 .given .1) _ (c .before .before .before .before .before .before .before .index2 .ensures .0) _ (c .before .before .before .before .before .before .set-bit .ensures) _ (c .updated2 .ensures)
 
 pub import-spec : {M : Type 1} → statement M
 import-spec =

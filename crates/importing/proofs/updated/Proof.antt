@@ -1,3 +1,4 @@
+use Rattle.importing.proofs.Inside.{renewed-in}
 use borrow.Author.Needs.{needs}
 use Rattle.importing.proofs.updated.Statement.{statement}
 use Rattle.importing.proofs.updated.Tie as tie
@@ -12,11 +13,11 @@ with-ghost-requires c κs = search needs
 
 -- src/lib.rt:93:5
 update-requires : tie.Need-update-requires
-update-requires c κs = ?
+update-requires c κs = (c .before .pre .0, rw (c .with-ghost .ensures) (renewed-in _ (c .before .pre .0) _ (c .before .args .phase) _ (c .before .pre .1)))
 
 -- src/lib.rt:55:1
 returns : tie.Need-returns
-returns c = ?
+returns c = rw (c .update .ensures, c .before .with-ghost .ensures)
 
 pub updated-spec : {M : Type 1} → statement M
 updated-spec = tie.close (tie.spec with-ghost-requires update-requires returns)

@@ -7,15 +7,15 @@ use Rattle.listing.proofs.pair_of.Lts as lts
 use Rattle.listing.proofs.chosen.Reads as chosen-reads
 use Rattle.tracker.proofs.recorded.Reads as recorded-reads
 
--- src/lib.rt:162:9
+-- src/lib.rt:160:9
 recorded-requires : tie.Need-recorded-requires
 recorded-requires c κs = search needs
 
--- src/lib.rt:173:5
+-- src/lib.rt:171:5
 chosen-requires : tie.Need-chosen-requires
 chosen-requires c κs = search needs
 
--- src/lib.rt:148:1
+-- src/lib.rt:146:1
 returns : tie.Need-returns
 unfolding pair-of
 returns c = rw (c .chosen .ensures, c .before .recorded .ensures)

@@ -6,27 +6,27 @@ use Rattle.listing.proofs.suits.Lts as lts
 use Rattle.listing.proofs.finalizes.Reads as finalizes-reads
 use Rattle.listing.proofs.odd.Reads as odd-reads
 
--- src/lib.rt:47:20
+-- src/lib.rt:62:20
 enum-known-wanted : tie.Need-enum-known-wanted
 enum-known-wanted c = search needs
 
--- src/lib.rt:47:40
+-- src/lib.rt:62:40
 odd-requires : tie.Need-odd-requires
 odd-requires c κs = search needs
 
--- src/lib.rt:48:28
+-- src/lib.rt:63:28
 enum-known-wanted-2 : tie.Need-enum-known-wanted-2
 enum-known-wanted-2 c = search needs
 
--- src/lib.rt:48:38
+-- src/lib.rt:63:38
 finalizes-requires : tie.Need-finalizes-requires
 finalizes-requires c κs = search needs
 
--- src/lib.rt:42:1
+-- src/lib.rt:51:1
 returns : tie.Need-returns
 returns c = rw (c .odd .ensures, c .before .before .wanted .given .1)
 
--- src/lib.rt:42:1
+-- src/lib.rt:51:1
 returns-2 : tie.Need-returns-2
 returns-2 c = rw (c .before .before .wanted2 .given .1) (c .finalizes .ensures)
 

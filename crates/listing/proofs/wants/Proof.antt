@@ -10,15 +10,15 @@ use Rattle.listing.proofs.wants.Lts as lts
 use Rattle.listing.proofs.suits.Reads as suits-reads
 use Rattle.climbs.proofs.wide.Reads as wide-reads
 
--- src/lib.rt:58:13
+-- src/lib.rt:79:13
 element-copy-out-wide : tie.Need-element-copy-out-wide
 element-copy-out-wide c = search needs
 
--- src/lib.rt:58:8
+-- src/lib.rt:79:8
 wide-requires : tie.Need-wide-requires
 wide-requires c κs = search needs
 
--- src/lib.rt:59:9
+-- src/lib.rt:80:9
 returns : tie.Need-returns
 unfolding wants
 returns c =
@@ -26,11 +26,11 @@ returns c =
     let h : getD (c .before .before .before .args .times .now) at 0 ≤ c .before .before .before .args .entry % 2 = rw (← c .before .wide .ensures .0) (c .if1 .taken) in
     rw (le-ltb _ _ h)
 
--- src/lib.rt:61:5
+-- src/lib.rt:82:5
 suits-requires : tie.Need-suits-requires
 suits-requires c κs = search needs
 
--- src/lib.rt:53:1
+-- src/lib.rt:68:1
 returns-2 : tie.Need-returns-2
 unfolding wants
 returns-2 c =

@@ -25,79 +25,79 @@ Inv-loop entries count times places signatures targets numbers seconds voters id
 abbrev μ-loop : tie.MeasureT-loop
 μ-loop entries count times places signatures targets numbers seconds voters ids heights out₀ used₀ k₀ out used k = count - k
 
--- src/lib.rt:195:20
+-- src/lib.rt:193:20
 mul-if1 : tie.Need-mul-if1 Inv-loop μ-loop
 mul-if1 c = omega (arith, c .before .pre)
 
--- src/lib.rt:196:9
+-- src/lib.rt:194:9
 returns : tie.Need-returns Inv-loop μ-loop
 returns c = filled-not _ _ _ _ (c .if1 .taken)
 
--- src/lib.rt:199:5
+-- src/lib.rt:197:5
 loop-holds : tie.Need-loop-holds Inv-loop μ-loop
 loop-holds c = (search needs, filled-none _ _ _)
 
--- src/lib.rt:200:26
+-- src/lib.rt:198:26
 element-copy-out-wide : tie.Need-element-copy-out-wide Inv-loop μ-loop
 element-copy-out-wide c = omega (arith, c .loop-test .taken, c .before .before .before .before .pre)
 
--- src/lib.rt:200:13
+-- src/lib.rt:198:13
 wide-requires : tie.Need-wide-requires Inv-loop μ-loop
 wide-requires c κs = search needs
 
--- src/lib.rt:201:13
+-- src/lib.rt:199:13
 phase-of-requires : tie.Need-phase-of-requires Inv-loop μ-loop
 phase-of-requires c κs = search needs
 
--- src/lib.rt:202:13
+-- src/lib.rt:200:13
 pair-of-requires : tie.Need-pair-of-requires Inv-loop μ-loop
 pair-of-requires c κs = c .before .wide .ensures .1
 
--- src/lib.rt:205:27
+-- src/lib.rt:211:27
 sub-put-vote : tie.Need-sub-put-vote Inv-loop μ-loop
 sub-put-vote c = omega (arith, c .before .before .before .before .before .loop .inv .1 .used-is, c .before .before .before .before .before .loop .inv .1 .size, c .before .before .before .before .loop-test .taken, c .before .before .before .before .before .before .if1 .left)
 
--- src/lib.rt:205:27
+-- src/lib.rt:211:27
 part-put-vote-start : tie.Need-part-put-vote-start Inv-loop μ-loop
 part-put-vote-start c = omega (arith, c .before .before .before .before .before .loop .inv .1 .used-is, c .before .before .before .before .before .loop .inv .1 .size, c .before .before .before .before .loop-test .taken, c .before .before .before .before .before .before .if1 .left)
 
--- src/lib.rt:205:27
+-- src/lib.rt:211:27
 part-put-vote-end : tie.Need-part-put-vote-end Inv-loop μ-loop
 part-put-vote-end c = omega arith
 
--- src/lib.rt:205:52
+-- src/lib.rt:211:52
 mul-put-vote : tie.Need-mul-put-vote Inv-loop μ-loop
 mul-put-vote c = omega (arith, c .before .before .before .wide .ensures .1)
 
--- src/lib.rt:205:52
+-- src/lib.rt:211:52
 element-copy-out-put-vote : tie.Need-element-copy-out-put-vote Inv-loop μ-loop
 element-copy-out-put-vote c = omega (arith, c .before .before .before .wide .ensures .1)
 
--- src/lib.rt:205:9
+-- src/lib.rt:211:9
 put-vote-requires : tie.Need-put-vote-requires Inv-loop μ-loop
 put-vote-requires c κs = omega (arith, length-take (length (c .before .before .before .before .before .before .before .loop .out) - c .before .before .before .before .before .before .before .loop .used) (drop (c .before .before .before .before .before .before .before .loop .used) (c .before .before .before .before .before .before .before .loop .out)), length-drop (c .before .before .before .before .before .before .before .loop .used) (c .before .before .before .before .before .before .before .loop .out), c .before .before .before .before .before .before .before .loop .inv .1 .used-is, c .before .before .before .before .before .before .before .loop .inv .1 .size, c .before .before .before .before .before .before .loop-test .taken, c .before .before .before .before .before .before .before .before .if1 .left)
 
--- src/lib.rt:206:16
+-- src/lib.rt:212:16
 add-used : tie.Need-add-used Inv-loop μ-loop
 add-used c = omega (arith, c .before .before .before .before .before .before .before .before .before .before .loop .inv .1 .used-is, c .before .before .before .before .before .before .before .before .before .loop-test .taken, c .before .before .before .before .before .before .before .before .before .before .before .before .before .pre)
 
--- src/lib.rt:199:9
+-- src/lib.rt:197:9
 add-k : tie.Need-add-k Inv-loop μ-loop
 add-k c = omega (arith, c .before .before .before .before .before .before .before .before .before .loop-test .taken, c .before .before .before .before .before .before .before .before .before .before .before .before .before .pre)
 
--- src/lib.rt:199:5
+-- src/lib.rt:197:5
 loop-less : tie.Need-loop-less Inv-loop μ-loop
 loop-less c = omega (arith, c .before .before .before .before .before .before .before .before .before .loop-test .taken)
 
--- src/lib.rt:199:5
+-- src/lib.rt:197:5
 loop-again : tie.Need-loop-again Inv-loop μ-loop
 loop-again c = (omega (arith, c .before .before .before .before .before .before .before .before .before .loop-test .taken), filled-next _ (record-size _ _ _ _) _ _ _ _ _ (c .before .before .before .before .before .before .before .before .before .before .loop .inv .1) (omega (arith, c .before .before .before .before .before .before .before .before .before .before .loop .inv .1 .used-is, c .before .before .before .before .before .before .before .before .before .loop-test .taken, c .before .before .before .before .before .before .before .before .before .before .before .if1 .left)) _ (c .before .before .put-vote .ensures ∙ ap (λ (l : List ℕ). l ++ drop 22 (take (length (c .before .before .before .before .before .before .before .before .before .before .loop .out) - c .before .before .before .before .before .before .before .before .before .before .loop .used) (drop (c .before .before .before .before .before .before .before .before .before .before .loop .used) (c .before .before .before .before .before .before .before .before .before .before .loop .out)))) (record-is _ _ _ _ _ _ _ _ (c .before .before .before .before .before .before .before .wide .ensures .0) (c .before .before .before .before .before .before .phase-of .ensures) (c .before .before .before .before .before .pair-of .ensures))))
 
--- src/lib.rt:177:1
+-- src/lib.rt:175:1
 same-length : tie.Need-same-length Inv-loop μ-loop
 same-length c = c .before .loop .inv .1 .size
 
--- src/lib.rt:177:1
+-- src/lib.rt:175:1
 returns-2 : tie.Need-returns-2 Inv-loop μ-loop
 returns-2 c = filled-end _ _ _ _ _ _ _ (c .before .loop .inv .1) (omega (arith, c .before .loop .inv .0, c .loop-test .left)) (c .before .before .if1 .left)
 

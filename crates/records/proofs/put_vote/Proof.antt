@@ -7,7 +7,7 @@ use Rattle.records.proofs.put_vote.Lts as lts
 use Rattle.records.proofs.mark.Reads as mark-reads
 use Rattle.records.proofs.put.Reads as put-reads
 
--- src/lib.rt:57:14
+-- src/lib.rt:59:9
 mark-requires : tie.Need-mark-requires
 mark-requires c κs = search needs
 

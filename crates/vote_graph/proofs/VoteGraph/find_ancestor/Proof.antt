@@ -11,7 +11,7 @@ use Rattle.vote_graph.proofs.VoteGraph.find_ancestor.Lts as lts
 use Rattle.vote_graph.proofs.VoteGraph.ancestor.Reads as ancestor-reads
 use Rattle.vote_graph.proofs.VoteGraph.is_graph.Reads as is-graph-reads
 use Rattle.vote_graph.proofs.as_sought.Reads as as-sought-reads
-use Rattle.vote_graph.proofs.target.of.Reads as of-reads
+use Rattle.vote_graph.proofs.named.of.Reads as of-reads
 
 -- src/lib.rt:236:13
 is-graph-requires : tie.Need-is-graph-requires

@@ -11,7 +11,7 @@ use Rattle.vote_graph.proofs.VoteGraph.find_ghost.Lts as lts
 use Rattle.vote_graph.proofs.VoteGraph.heaviest.Reads as heaviest-reads
 use Rattle.vote_graph.proofs.VoteGraph.is_graph.Reads as is-graph-reads
 use Rattle.vote_graph.proofs.as_sought.Reads as as-sought-reads
-use Rattle.vote_graph.proofs.target.start.Reads as start-reads
+use Rattle.vote_graph.proofs.named.start.Reads as start-reads
 
 -- src/lib.rt:285:13
 is-graph-requires : tie.Need-is-graph-requires

@@ -10,7 +10,7 @@ use Rattle.vote_graph.proofs.VoteGraph.insert.Reads as reads
 use Rattle.vote_graph.proofs.VoteGraph.insert.Lts as lts
 use Rattle.vote_graph.proofs.VoteGraph.is_graph.Reads as is-graph-reads
 use Rattle.vote_graph.proofs.VoteGraph.voted.Reads as voted-reads
-use Rattle.vote_graph.proofs.target.of.Reads as of-reads
+use Rattle.vote_graph.proofs.named.of.Reads as of-reads
 
 -- src/lib.rt:122:13
 is-graph-requires : tie.Need-is-graph-requires

@@ -1,0 +1,62 @@
+-- A round by value and its shape. Document 01, "Shape rules", and no others; "Refusal numbers" 9. The stored four answers are not
+-- tested against the votes.
+use mathlib.Core.Bool.{Bool, true, _&&_}
+use Prim.Native.Nat.{ℕ}
+use lib.Dec.{eqb, leb}
+use lib.ListN.{length}
+use Rattle.voter_set.specs.Good.{good}
+use Rattle.nodes.specs.Nodes.{row}
+use Rattle.vote_graph.specs.Shape.{columns, is-graph}
+use Rattle.vote_shape.specs.Voted.{voted}
+use Rattle.answer_shape.specs.Stored.{all-stored, weighed}
+use Rattle.importing.specs.Import.{Frame, Held}
+use Rattle.round.specs.declared.Index.{Index}
+use Rattle.round.specs.declared.Index.the-variants.{At, Nothing}
+use Rattle.round.specs.declared.Round.{Round}
+
+-- what no vote changes, and what a vote may change
+abbrev pub frame : Round → Frame
+frame r = record { number = r .number; voters = r .context .voters; table = r .table; base = r .graph .base }
+
+abbrev pub held : Round → Held
+held r =
+    record {
+      graph = columns (r .graph);
+      votes = r .votes;
+      entries = r .history .entries;
+      count = r .history .count;
+      equivocations = r .context .equivocations;
+      heard = r .heard;
+      answers = r .answers;
+    }
+
+-- arrays of their sizes, which the types say of a round in code
+unfoldable pub sized : Held → Bool
+sized h =
+    eqb (length (h .votes .times)) 128
+    && (eqb (length (h .votes .places)) 128
+    && (eqb (length (h .votes .signatures)) 128
+    && (eqb (length (h .votes .targets)) 128
+    && (eqb (length (h .votes .numbers)) 128
+    && (eqb (length (h .votes .seconds)) 128 && (eqb (length (h .entries)) 256 && eqb (length (h .equivocations)) 2))))))
+
+-- counts within sizes: history has at most 256 entries
+abbrev pub index-fits : Index → Bool
+index-fits (At n) = leb n 256
+index-fits Nothing = true
+
+-- the recorded votes, and what is kept beside them, as document 01 lists it
+unfoldable pub tells-votes : Frame → Held → Bool
+tells-votes f h =
+    voted (f .voters .count) (f .table .parents) (f .base) (h .graph .used) (h .graph .rows) (h .votes) (h .equivocations) (h .entries) (h .count)
+
+-- the whole test
+unfoldable pub shaped : Round → Bool
+shaped r =
+    is-graph (r .graph) (r .table)
+    && (good (r .context .voters)
+    && (sized (held r)
+    && (tells-votes (frame r) (held r)
+    && (weighed (r .context .voters .weights) (row (columns (r .graph) .rows) (r .graph .base)) (r .heard)
+    && (all-stored (r .table .parents) (r .table .count) (r .graph .base) (r .answers)
+    && (index-fits (r .history .prevoted) && index-fits (r .history .precommitted)))))))

@@ -1,0 +1,554 @@
+// A round by value: round.rs of finality-grandpa, with its votes, equivocations and `HistoricalVotes` of lib.rs. Each call first tests
+// the round that it is handed (9), also where it only reads; what it does then is done by calls on lent columns in the crates below.
+ghost use mathlib.Core.Path.{_≡_};
+ghost use lib.Dec.{T};
+ghost use Rattle.context.specs.declared.Phase.the-variants.{Prevote, Precommit};
+ghost use Rattle.round.specs.Shape.{index-fits, shaped};
+ghost use Rattle.round.specs.Calls.{no-votes, no-answers, opened, nobody, no-blocks, new, add-block, imported, import-vote, sought, with-sought, precommit-ghost, marked, set-index, block-of};
+use answers::Answers;
+use answers::Heard;
+use blocks::Answer;
+use blocks::BlockTable;
+use blocks::Place;
+use context::Context;
+use context::Phase;
+use importing::Standing;
+use judging::ImportResult;
+use nodes::Found;
+use tracker::Pair;
+use tracker::Votes;
+use vote_graph::VoteGraph;
+use voter_set::VoterSet;
+
+// How many votes had been seen when this desk voted itself.
+pub enum Index {
+    At(u64),
+    Nothing,
+}
+
+// `HistoricalVotes`: recorded votes in arrival order, one byte each: entry 2i is the first pair at index i, 2i + 1 the second.
+pub struct History {
+    pub entries: [u8; 256],
+    pub count: usize,
+    pub prevoted: Index,
+    pub precommitted: Index,
+}
+
+// The fields are public, so that a state can be stored and handed in again: `is_round` tells a state that keeps the shape rules.
+pub struct Round {
+    pub number: u64,
+    pub context: Context,
+    pub table: BlockTable,
+    pub graph: VoteGraph,
+    pub votes: Votes,
+    pub history: History,
+    pub heard: Heard,
+    pub answers: Answers,
+}
+
+// Done, or the number of the refusal.
+pub enum Done {
+    Yes,
+    Refused(u8),
+}
+
+// The answer and the round beside it: an enum holds no array.
+pub struct Kept {
+    pub answer: Done,
+    pub round: Round,
+}
+
+pub struct Grown {
+    pub answer: Answer,
+    pub round: Round,
+}
+
+pub struct Imported {
+    pub answer: ImportResult,
+    pub round: Round,
+}
+
+// A block by id and number.
+pub enum Told {
+    Block(u32, u32),
+    Nothing,
+    Refused(u8),
+}
+
+pub struct Asked {
+    pub answer: Told,
+    pub round: Round,
+}
+
+fn no_answers() -> Answers
+    ensures { λ r. ⌜ r ≡ no-answers ⌝ }
+{
+    Answers {
+        prevote: Found::Nothing,
+        precommit: Found::Nothing,
+        finalized: Found::Nothing,
+        estimate: Found::Nothing,
+        completable: false,
+    }
+}
+
+fn no_votes() -> Votes
+    ensures { λ r. ⌜ r ≡ no-votes ⌝ }
+{
+    Votes {
+        times: [0u8; 128],
+        places: [0u8; 128],
+        signatures: [0u64; 128],
+        targets: [0u32; 128],
+        numbers: [0u32; 128],
+        seconds: [0u64; 128],
+    }
+}
+
+fn opened(number: u64, voters: VoterSet, table: BlockTable, base: u8) -> Round
+    ensures { λ r. ⌜ r ≡ opened number voters table base ⌝ }
+{
+    let graph = VoteGraph::new(base);
+    let votes = no_votes();
+    let answers = no_answers();
+    Round {
+        number,
+        context: Context {
+            voters,
+            equivocations: [0u64; 2],
+        },
+        table,
+        graph,
+        votes,
+        history: History {
+            entries: [0u8; 256],
+            count: 0,
+            prevoted: Index::Nothing,
+            precommitted: Index::Nothing,
+        },
+        heard: Heard {
+            prevote: 0,
+            precommit: 0,
+        },
+        answers,
+    }
+}
+
+fn nobody() -> VoterSet
+    ensures { λ r. ⌜ r ≡ nobody ⌝ }
+{
+    VoterSet {
+        ids: [0u32; 64],
+        weights: [0u64; 64],
+        count: 0,
+        threshold: 0,
+        total: 0,
+    }
+}
+
+fn no_blocks() -> BlockTable
+    ensures { λ r. ⌜ r ≡ no-blocks ⌝ }
+{
+    BlockTable {
+        ids: [0u32; 256],
+        numbers: [0u32; 256],
+        parents: [0u8; 256],
+        count: 0,
+    }
+}
+
+fn index_fits(index: Index) -> bool
+    ensures { λ r. ⌜ r ≡ index-fits index ⌝ }
+{
+    match index {
+        Index::At(seen) => seen <= 256,
+        Index::Nothing => true,
+    }
+}
+
+fn block_of<'a>(ids: &'a [u32; 256], numbers: &'a [u32; 256], found: Found) -> Told
+    ensures { λ r. ⌜ r ≡ block-of (now (ids .entry)) (now (numbers .entry)) found ⌝ }
+{
+    match found {
+        Found::At(block) => {
+            let at = climbs::wide(block);
+            Told::Block(ids[at], numbers[at])
+        }
+        Found::Nothing => Told::Nothing,
+    }
+}
+
+fn marked(history: History, phase: Phase) -> History
+    ensures { λ r. ⌜ r ≡ marked phase history ⌝ }
+{
+    let entries = history.entries;
+    let prevoted = history.prevoted;
+    let precommitted = history.precommitted;
+    let seen = Index::At(history.count as u64);
+    match phase {
+        Phase::Prevote => History {
+            entries,
+            count: history.count,
+            prevoted: seen,
+            precommitted,
+        },
+        Phase::Precommit => History {
+            entries,
+            count: history.count,
+            prevoted,
+            precommitted: seen,
+        },
+    }
+}
+
+impl Round {
+    // A round on a base with no votes. Beside a refusal stands a round without blocks, which every call refuses.
+    pub fn new(number: u64, voters: VoterSet, table: BlockTable, base: u32) -> Kept
+        ensures { λ r. ⌜ r ≡ new number voters table base ⌝ }
+    {
+        if !voters.is_good() {
+            return Kept {
+                answer: Done::Refused(9),
+                round: opened(0, nobody(), no_blocks(), 0),
+            };
+        }
+        if !block_table::is_table(table) {
+            return Kept {
+                answer: Done::Refused(9),
+                round: opened(0, nobody(), no_blocks(), 0),
+            };
+        }
+        let Place::At(place) = blocks::find(&table.ids, table.count, base) else {
+            return Kept {
+                answer: Done::Refused(10),
+                round: opened(0, nobody(), no_blocks(), 0),
+            };
+        };
+        Kept {
+            answer: Done::Yes,
+            round: opened(number, voters, table, place),
+        }
+    }
+
+    // Whether the round keeps the shape rules.
+    pub fn is_round(self) -> bool
+        ensures { λ r. ⌜ r ≡ shaped self ⌝ }
+    {
+        let table = self.table;
+        let graph = self.graph;
+        if !graph.is_graph(table) {
+            return false;
+        }
+        let context = self.context;
+        let voters = context.voters;
+        if !voters.is_good() {
+            return false;
+        }
+        let rows = graph.rows;
+        let words = graph_rows::words_of(rows);
+        let votes = self.votes;
+        let history = self.history;
+        let equivocations = context.equivocations;
+        if !vote_shape::is_voted(
+            voters.count,
+            &table.parents,
+            graph.base,
+            &graph.used,
+            &words,
+            &votes.times,
+            &votes.places,
+            &votes.signatures,
+            &votes.targets,
+            &votes.numbers,
+            &votes.seconds,
+            equivocations,
+            &history.entries,
+            history.count,
+        ) {
+            return false;
+        }
+        let root = words[climbs::wide(graph.base)];
+        let heard = self.heard;
+        if !answer_shape::is_weighed(&voters.weights, root, heard) {
+            return false;
+        }
+        let answers = self.answers;
+        if !answer_shape::are_stored(&table.parents, table.count, graph.base, answers) {
+            return false;
+        }
+        let prevoted = history.prevoted;
+        if !index_fits(prevoted) {
+            return false;
+        }
+        let precommitted = history.precommitted;
+        index_fits(precommitted)
+    }
+
+    // One more block.
+    pub fn add_block(mut self, id: u32, parent: u32) -> Grown
+        ensures { λ r. ⌜ r ≡ add-block id parent self ⌝ }
+    {
+        if !self.is_round() {
+            return Grown {
+                answer: Answer::Refused(9),
+                round: self,
+            };
+        }
+        let table = self.table;
+        let mut ids = table.ids;
+        let mut numbers = table.numbers;
+        let mut parents = table.parents;
+        let answer = blocks::add(
+            &mut ids,
+            &mut numbers,
+            &mut parents,
+            table.count,
+            id,
+            parent,
+        );
+        let count = blocks::counted(table.count, answer);
+        self.table = BlockTable {
+            ids,
+            numbers,
+            parents,
+            count,
+        };
+        Grown {
+            answer,
+            round: self,
+        }
+    }
+
+    // A vote in a phase, on a round that keeps the shape rules.
+    fn import(mut self, phase: Phase, signer: u32, pair: Pair) -> Imported
+        requires { ⌜ T (shaped self) ⌝ }
+        ensures { λ r. ⌜ r ≡ imported phase signer pair self ⌝ }
+    {
+        let context = self.context;
+        let voters = context.voters;
+        let table = self.table;
+        let graph = self.graph;
+        let votes = self.votes;
+        let history = self.history;
+        let mut used = graph.used;
+        let mut above = graph.above;
+        let rows = graph.rows;
+        let mut words = graph_rows::words_of(rows);
+        let mut order = graph.order;
+        let mut heads = graph.heads;
+        let mut times = votes.times;
+        let mut places = votes.places;
+        let mut signatures = votes.signatures;
+        let mut targets = votes.targets;
+        let mut numbers = votes.numbers;
+        let mut seconds = votes.seconds;
+        let mut entries = history.entries;
+        let equivocations = context.equivocations;
+        let heard = self.heard;
+        let stored = self.answers;
+        let standing = Standing {
+            listed: graph.listed,
+            tips: graph.tips,
+            count: history.count,
+            equivocations,
+            heard,
+            answers: stored,
+        };
+        let step = importing::import(
+            &voters.ids,
+            &voters.weights,
+            voters.count,
+            voters.total,
+            voters.threshold,
+            self.number,
+            &table.ids,
+            &table.numbers,
+            &table.parents,
+            table.count,
+            graph.base,
+            &mut used,
+            &mut above,
+            &mut words,
+            &mut order,
+            &mut heads,
+            &mut times,
+            &mut places,
+            &mut signatures,
+            &mut targets,
+            &mut numbers,
+            &mut seconds,
+            &mut entries,
+            standing,
+            phase,
+            signer,
+            pair,
+        );
+        let answer = step.answer;
+        let after = step.standing;
+        let equivocators = after.equivocations;
+        let told = after.heard;
+        let answers = after.answers;
+        let base = graph.base;
+        let prevoted = history.prevoted;
+        let precommitted = history.precommitted;
+        let rows = graph_rows::rows_of(&words);
+        self.context = Context {
+            voters,
+            equivocations: equivocators,
+        };
+        self.graph = VoteGraph {
+            base,
+            used,
+            above,
+            rows,
+            order,
+            listed: after.listed,
+            heads,
+            tips: after.tips,
+        };
+        self.votes = Votes {
+            times,
+            places,
+            signatures,
+            targets,
+            numbers,
+            seconds,
+        };
+        self.history = History {
+            entries,
+            count: after.count,
+            prevoted,
+            precommitted,
+        };
+        self.heard = told;
+        self.answers = answers;
+        Imported {
+            answer,
+            round: self,
+        }
+    }
+
+    pub fn import_prevote(self, signer: u32, pair: Pair) -> Imported
+        ensures { λ r. ⌜ r ≡ import-vote Prevote signer pair self ⌝ }
+    {
+        if !self.is_round() {
+            return Imported {
+                answer: ImportResult::Refused(9),
+                round: self,
+            };
+        }
+        self.import(Phase::Prevote, signer, pair)
+    }
+
+    pub fn import_precommit(self, signer: u32, pair: Pair) -> Imported
+        ensures { λ r. ⌜ r ≡ import-vote Precommit signer pair self ⌝ }
+    {
+        if !self.is_round() {
+            return Imported {
+                answer: ImportResult::Refused(9),
+                round: self,
+            };
+        }
+        self.import(Phase::Precommit, signer, pair)
+    }
+
+    // The precommit-GHOST, from the stored one, on a round that keeps the shape rules.
+    fn sought(self) -> Found
+        requires { ⌜ T (shaped self) ⌝ }
+        ensures { λ r. ⌜ r ≡ sought self ⌝ }
+    {
+        let context = self.context;
+        let voters = context.voters;
+        let table = self.table;
+        let graph = self.graph;
+        let rows = graph.rows;
+        let words = graph_rows::words_of(rows);
+        let equivocations = context.equivocations;
+        let heard = self.heard;
+        let answers = self.answers;
+        let stored = answers.precommit;
+        answers::phase_ghost(
+            &table.parents,
+            &graph.used,
+            &graph.above,
+            &words,
+            &graph.order,
+            graph.listed,
+            &graph.heads,
+            graph.tips,
+            &voters.weights,
+            graph.base,
+            voters.threshold,
+            equivocations,
+            Phase::Precommit,
+            heard.precommit,
+            stored,
+        )
+    }
+
+    // Works the precommit-GHOST out again and stores it.
+    pub fn precommit_ghost(mut self) -> Asked
+        ensures { λ r. ⌜ r ≡ precommit-ghost self ⌝ }
+    {
+        if !self.is_round() {
+            return Asked {
+                answer: Told::Refused(9),
+                round: self,
+            };
+        }
+        let found = self.sought();
+        let table = self.table;
+        let answer = block_of(&table.ids, &table.numbers, found);
+        let stored = self.answers;
+        let prevote = stored.prevote;
+        let finalized = stored.finalized;
+        let estimate = stored.estimate;
+        self.answers = Answers {
+            prevote,
+            precommit: found,
+            finalized,
+            estimate,
+            completable: stored.completable,
+        };
+        Asked {
+            answer,
+            round: self,
+        }
+    }
+
+    // This desk has prevoted: the votes seen so far.
+    pub fn set_prevoted_index(mut self) -> Kept
+        ensures { λ r. ⌜ r ≡ set-index Prevote self ⌝ }
+    {
+        if !self.is_round() {
+            return Kept {
+                answer: Done::Refused(9),
+                round: self,
+            };
+        }
+        let history = self.history;
+        self.history = marked(history, Phase::Prevote);
+        Kept {
+            answer: Done::Yes,
+            round: self,
+        }
+    }
+
+    // The same of a precommit.
+    pub fn set_precommitted_index(mut self) -> Kept
+        ensures { λ r. ⌜ r ≡ set-index Precommit self ⌝ }
+    {
+        if !self.is_round() {
+            return Kept {
+                answer: Done::Refused(9),
+                round: self,
+            };
+        }
+        let history = self.history;
+        self.history = marked(history, Phase::Precommit);
+        Kept {
+            answer: Done::Yes,
+            round: self,
+        }
+    }
+}
