@@ -8,7 +8,7 @@ use Prim.Native.Nat.{ℕ, zero, suc, pred, _+_, _-_, _≤_, _<_}
 use native.Mathlib.Decide.{ℕ-discrete, decLt}
 use native.Mathlib.Omega.{arith}
 use lib.Dec.{T, eqb, leb, ltb, eqb→eq, leb→le}
-use lib.ListN.{set, length, replicate, length-set}
+use lib.ListN.{set, length, replicate, length-set, getD-replicate}
 use lib.Seq.{getD-set-same, getD-set-other}
 use borrow.Author.Tests.{eq-eqb, ne-eqb, lt-ltb, le-ltb, le-leb}
 use Rattle.loops.proofs.Tests.{T-true, true-T, same-test, and-false, or-false}
@@ -219,15 +219,10 @@ told-turn used rows joins p x h s =
     (all-cong 128 (λ j. Bool·beq (has (row rows x) j) (p x j)) (λ j. Bool·beq (has (row rows x) j) (has (row joins x) j))
     (λ j l. ap (Bool·beq (has (row rows x) j)) (sym (s .says x h j l))))
 
-blank-row : (n x : ℕ) → x < n → row (replicate n no-bits) x ≡ no-bits
-blank-row zero x h = absurd (omega arith)
-blank-row (suc n) zero h = refl
-blank-row (suc n) (suc x) h = blank-row n x (omega arith)
-
 pub held-none : Held (replicate 256 no-bits) (λ x j. false)
 held-none =
     record {
       sized = refl;
-      words = λ x h. ap length (blank-row 256 x h);
-      says = λ x h j l. ap (λ (ws : List ℕ). has ws j) (blank-row 256 x h) ∙ has-none 2 j;
+      words = λ x h. ap length (getD-replicate 256 x no-bits [] h);
+      says = λ x h j l. ap (λ (ws : List ℕ). has ws j) (getD-replicate 256 x no-bits [] h) ∙ has-none 2 j;
     }

@@ -4,3 +4,5 @@ pub mod Nodes
 pub mod Histories
 pub mod Means
 pub mod Keeps
+pub mod Recordings
+pub mod Opens

@@ -7,7 +7,7 @@ use mathlib.Core.List.{List}
 use mathlib.Core.Path.{_≡_}
 use Prim.Native.Nat.{ℕ, _*_, _/_, _%_, _≤_, _<_}
 use lib.Dec.{T, ltb}
-use lib.ListN.{length, set}
+use lib.ListN.{length, set, replicate}
 use Rattle.loops.specs.Listing.{times, front}
 use Rattle.columns.specs.Lists.{padded}
 use Rattle.grandpa.specs.Vote.{equivocated}
@@ -59,6 +59,18 @@ pub record Beside (used : List Bool) (rows : List (List ℕ)) (equivocations ent
   pub row-size : (x : ℕ) → x < 256 → length (row rows x) ≡ 2
   pub words : length equivocations ≡ 2
   pub entries-size : length entries ≡ 256
+
+-- no vote
+abbrev pub no-votes : Votes
+no-votes =
+    record {
+      times = replicate 128 0;
+      places = replicate 128 0;
+      signatures = replicate 128 0;
+      targets = replicate 128 0;
+      numbers = replicate 128 0;
+      seconds = replicate 128 0;
+    }
 
 -- a first pair recorded at an index
 abbrev pub with-first : Votes → ℕ → ℕ → ℕ → Votes
