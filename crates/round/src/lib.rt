@@ -2,6 +2,10 @@
 // the round that it is handed (9), also where it only reads; what it does then is done by calls on lent columns in the crates below.
 ghost use mathlib.Core.Path.{_≡_};
 ghost use lib.Dec.{T};
+ghost use lib.ListN.{length};
+ghost use Rattle.nodes.specs.Nodes.{Falls};
+ghost use Rattle.vote_shape.specs.Voted.{voted};
+ghost use Rattle.vote_shape_laws.specs.Recorded.{Wide};
 ghost use Rattle.context.specs.declared.Phase.the-variants.{Prevote, Precommit};
 ghost use Rattle.round.specs.Shape.{index-fits, shaped};
 ghost use Rattle.round.specs.Calls.{no-votes, no-answers, opened, nobody, no-blocks, new, add-block, imported, import-vote, sought, with-sought, precommit-ghost, marked, set-index, block-of};
@@ -157,6 +161,38 @@ fn no_blocks() -> BlockTable
     }
 }
 
+// Whether nodes, equivocators and history tell the recorded votes. The arrays' lengths are known of a parameter.
+fn are_told<'a>(
+    size: usize,
+    parents: &'a [u8; 256],
+    base: u8,
+    used: &'a [bool; 256],
+    words: &'a [[u64; 2]; 256],
+    votes: Votes,
+    equivocations: [u64; 2],
+    history: History,
+) -> bool
+    requires { ⌜ Falls (now parents) ⌝ }
+    ensures { λ r. ⌜ (r ≡ voted size (now (parents .entry)) base (now (used .entry)) (now (words .entry)) votes equivocations (history .entries) (history .count)) × (Wide votes) × (length (history .entries) ≡ 256) × (length equivocations ≡ 2) ⌝ }
+{
+    vote_shape::is_voted(
+        size,
+        parents,
+        base,
+        used,
+        words,
+        &votes.times,
+        &votes.places,
+        &votes.signatures,
+        &votes.targets,
+        &votes.numbers,
+        &votes.seconds,
+        equivocations,
+        &history.entries,
+        history.count,
+    )
+}
+
 fn index_fits(index: Index) -> bool
     ensures { λ r. ⌜ r ≡ index-fits index ⌝ }
 {
@@ -249,21 +285,15 @@ impl Round {
         let votes = self.votes;
         let history = self.history;
         let equivocations = context.equivocations;
-        if !vote_shape::is_voted(
+        if !are_told(
             voters.count,
             &table.parents,
             graph.base,
             &graph.used,
             &words,
-            &votes.times,
-            &votes.places,
-            &votes.signatures,
-            &votes.targets,
-            &votes.numbers,
-            &votes.seconds,
+            votes,
             equivocations,
-            &history.entries,
-            history.count,
+            history,
         ) {
             return false;
         }
@@ -307,13 +337,13 @@ impl Round {
             parent,
         );
         let count = blocks::counted(table.count, answer);
-        let now_table = BlockTable {
+        let table_after = BlockTable {
             ids,
             numbers,
             parents,
             count,
         };
-        self.table = now_table;
+        self.table = table_after;
         Grown {
             answer,
             round: self,
@@ -393,12 +423,12 @@ impl Round {
         let prevoted = history.prevoted;
         let precommitted = history.precommitted;
         let rows = graph_rows::rows_of(&words);
-        let now_context = Context {
+        let context_after = Context {
             voters,
             equivocations: equivocators,
         };
-        self.context = now_context;
-        let now_graph = VoteGraph {
+        self.context = context_after;
+        let graph_after = VoteGraph {
             base,
             used,
             above,
@@ -408,8 +438,8 @@ impl Round {
             heads,
             tips: after.tips,
         };
-        self.graph = now_graph;
-        let now_votes = Votes {
+        self.graph = graph_after;
+        let votes_after = Votes {
             times,
             places,
             signatures,
@@ -417,14 +447,14 @@ impl Round {
             numbers,
             seconds,
         };
-        self.votes = now_votes;
-        let now_history = History {
+        self.votes = votes_after;
+        let history_after = History {
             entries,
             count: after.count,
             prevoted,
             precommitted,
         };
-        self.history = now_history;
+        self.history = history_after;
         self.heard = told;
         self.answers = answers;
         Imported {
@@ -508,14 +538,14 @@ impl Round {
         let prevote = stored.prevote;
         let finalized = stored.finalized;
         let estimate = stored.estimate;
-        let now_answers = Answers {
+        let answers_after = Answers {
             prevote,
             precommit: found,
             finalized,
             estimate,
             completable: stored.completable,
         };
-        self.answers = now_answers;
+        self.answers = answers_after;
         Asked {
             answer,
             round: self,

@@ -1,0 +1,249 @@
+-- What the shape test gives the calls, and the ways through them.
+use mathlib.Core.Bool.{Bool, true, false, cond, _&&_}
+use mathlib.Core.List.{List}
+use mathlib.Core.Path.{_≡_, refl, sym, ap, subst, _∙_}
+use mathlib.Core.Logic.{_≢_}
+use Prim.Native.Nat.{ℕ, _≤_, _<_}
+use native.Mathlib.Omega.{arith}
+use lib.Dec.{T, eqb, leb, ltb, eqb→eq}
+use lib.ListN.{length}
+use borrow.Author.Tests.{eq-eqb}
+use Rattle.loops.proofs.Tests.{T-true, true-T, left-of, right-of}
+use Rattle.grandpa.specs.Tree.{below}
+use Rattle.voter_set.specs.Good.{Good, good}
+use Rattle.voter_laws.proofs.Goods.{good-means}
+use Rattle.blocks.specs.Table.{Stands}
+use Rattle.context.specs.declared.Phase.{Phase}
+use Rattle.context.specs.declared.Phase.the-variants.{Prevote, Precommit}
+use Rattle.nodes.specs.declared.Found.{Found}
+use Rattle.nodes.specs.declared.Found.the-variants.{At, Nothing}
+use Rattle.nodes.specs.Nodes.{col, row, Falls}
+use Rattle.nodes.specs.Columns.{Columns, Sound}
+use Rattle.graph_rows.specs.declared.Row.{Row}
+use Rattle.graph_rows.specs.Rows.{words-of, rows-of}
+use Rattle.vote_graph.specs.Shape.{columns, is-graph}
+use Rattle.vote_graph.proofs.Shapes.{Kept, is-graph-means}
+use Rattle.tracker.specs.declared.Pair.{Pair}
+use Rattle.vote_shape.specs.Voted.{voted}
+use Rattle.vote_shape_laws.specs.Recorded.{Wide, Beside, Recorded}
+use Rattle.vote_shape_laws.proofs.Means.{voted-means}
+use Rattle.vote_shape_laws.proofs.Keeps.{written-room}
+use Rattle.answers.specs.Update.{Scene, In-base, Grounded, phase-ghost}
+use Rattle.answer_shape.specs.Stored.{stored, all-stored, weighed}
+use Rattle.judging.specs.declared.Verdict.{Verdict}
+use Rattle.judging.specs.declared.Verdict.the-variants as verdicts
+use Rattle.importing.specs.Import.{Frame, Held, Taken, Ready, scene, verdict, apply, import}
+use Rattle.importing.proofs.Turns.{first-grounded}
+use Rattle.round.specs.declared.Round.{Round}
+use Rattle.round.specs.declared.Imported.{Imported}
+use Rattle.round.specs.Shape.{frame, held, sized, index-fits, tells-votes, shaped}
+use Rattle.round.specs.Calls.{imported, sought}
+
+-- the lengths that types say
+pub record Sizes (r : Round) : Type 0 where
+  pub wide : Wide (r .votes)
+  pub entries-size : length (r .history .entries) ≡ 256
+  pub words : length (r .context .equivocations) ≡ 2
+
+module _ (r : Round) where
+  pub says-sized : Sizes r → sized (held r) ≡ true
+  unfolding sized
+  says-sized s =
+      rw (
+        eq-eqb _ 128 (s .wide .times-size),
+        eq-eqb _ 128 (s .wide .places-size),
+        eq-eqb _ 128 (s .wide .signatures-size),
+        eq-eqb _ 128 (s .wide .targets-size),
+        eq-eqb _ 128 (s .wide .numbers-size),
+        eq-eqb _ 128 (s .wide .seconds-size),
+        eq-eqb _ 256 (s .entries-size),
+        eq-eqb _ 2 (s .words),
+      )
+
+  sized-says : T (sized (held r)) → Sizes r
+  unfolding sized
+  sized-says t =
+      let a = right-of (eqb (length (r .votes .times)) 128) _ t in
+      let b = right-of (eqb (length (r .votes .places)) 128) _ a in
+      let c = right-of (eqb (length (r .votes .signatures)) 128) _ b in
+      let d = right-of (eqb (length (r .votes .targets)) 128) _ c in
+      let e = right-of (eqb (length (r .votes .numbers)) 128) _ d in
+      let f = right-of (eqb (length (r .votes .seconds)) 128) _ e in
+      record {
+        wide = record {
+          times-size = eqb→eq _ _ (left-of (eqb (length (r .votes .times)) 128) _ t);
+          places-size = eqb→eq _ _ (left-of (eqb (length (r .votes .places)) 128) _ a);
+          signatures-size = eqb→eq _ _ (left-of (eqb (length (r .votes .signatures)) 128) _ b);
+          targets-size = eqb→eq _ _ (left-of (eqb (length (r .votes .targets)) 128) _ c);
+          numbers-size = eqb→eq _ _ (left-of (eqb (length (r .votes .numbers)) 128) _ d);
+          seconds-size = eqb→eq _ _ (left-of (eqb (length (r .votes .seconds)) 128) _ e);
+        };
+        entries-size = eqb→eq _ _ (left-of (eqb (length (r .history .entries)) 256) _ f);
+        words = eqb→eq _ _ (right-of (eqb (length (r .history .entries)) 256) _ f);
+      }
+
+  -- the test by its parts
+  pub shaped-by : {a b c d e f g h : Bool} → is-graph (r .graph) (r .table) ≡ a → good (r .context .voters) ≡ b → sized (held r) ≡ c
+      → tells-votes (frame r) (held r) ≡ d
+      → weighed (r .context .voters .weights) (row (columns (r .graph) .rows) (r .graph .base)) (r .heard) ≡ e
+      → all-stored (r .table .parents) (r .table .count) (r .graph .base) (r .answers) ≡ f
+      → index-fits (r .history .prevoted) ≡ g → index-fits (r .history .precommitted) ≡ h
+      → (a && (b && (c && (d && (e && (f && (g && h))))))) ≡ shaped r
+  unfolding shaped
+  shaped-by p q s t u v w x = rw (p, q, s, t, u, v, w, x)
+
+  pub votes-told : (w : List (List ℕ)) → w ≡ words-of (r .graph .rows) → (z : Bool)
+      → z ≡ voted (r .context .voters .count) (r .table .parents) (r .graph .base) (r .graph .used) w (r .votes) (r .context .equivocations) (r .history .entries) (r .history .count)
+      → (d : Bool) → z ≡ d → tells-votes (frame r) (held r) ≡ d
+  unfolding tells-votes
+  votes-told w e z q d p = rw (← e, ← q) p
+
+  pub weights-told : (w : List (List ℕ)) → w ≡ words-of (r .graph .rows) → (x : List ℕ) → x ≡ row w (r .graph .base) → (z : Bool)
+      → z ≡ weighed (r .context .voters .weights) x (r .heard) → (d : Bool) → z ≡ d
+      → weighed (r .context .voters .weights) (row (columns (r .graph) .rows) (r .graph .base)) (r .heard) ≡ d
+  weights-told w e x i z q d p = rw (← e, ← i, ← q) p
+
+  -- of a round that keeps the shape
+  module _ (t : T (shaped r)) where
+    passed : T (is-graph (r .graph) (r .table)) × T (good (r .context .voters)) × T (sized (held r)) × T (tells-votes (frame r) (held r))
+        × T (all-stored (r .table .parents) (r .table .count) (r .graph .base) (r .answers))
+    unfolding shaped
+    passed =
+        let a = right-of (is-graph (r .graph) (r .table)) _ t in
+        let b = right-of (good (r .context .voters)) _ a in
+        let c = right-of (sized (held r)) _ b in
+        let d = right-of (tells-votes (frame r) (held r)) _ c in
+        let e = right-of (weighed (r .context .voters .weights) (row (columns (r .graph) .rows) (r .graph .base)) (r .heard)) _ d in (
+          left-of (is-graph (r .graph) (r .table)) _ t,
+          left-of (good (r .context .voters)) _ a,
+          left-of (sized (held r)) _ b,
+          left-of (tells-votes (frame r) (held r)) _ c,
+          left-of (all-stored (r .table .parents) (r .table .count) (r .graph .base) (r .answers)) _ e,
+        )
+
+    pub graph-kept : Kept (r .graph) (r .table)
+    graph-kept = is-graph-means (r .graph) (r .table) (passed .0)
+
+    pub few-blocks : r .table .count ≤ 256
+    few-blocks = graph-kept .table .few
+
+    recorded : Recorded (r .context .voters .count) (r .table .parents) (r .graph .base) (r .graph .used) (words-of (r .graph .rows)) (r .votes)
+        (r .context .equivocations) (r .history .entries) (r .history .count)
+    unfolding tells-votes
+    recorded =
+        let s = sized-says (passed .2) in
+        voted-means _ _ _ _ _ _ _ _ _ (s .wide)
+        (record {
+          used-size = graph-kept .sound .used-size;
+          row-size = graph-kept .sound .row-size;
+          words = s .words;
+          entries-size = s .entries-size;
+        })
+        (true-T _ (passed .3))
+
+    stored-in : (o : Found) → T (stored (r .table .parents) (r .table .count) (r .graph .base) o) → In-base (r .table .parents) (r .graph .base) o
+    stored-in Nothing h = tt
+    stored-in (At b) h = right-of (ltb b (r .table .count)) _ h
+
+    pub prevote-in : In-base (r .table .parents) (r .graph .base) (r .answers .prevote)
+    unfolding all-stored
+    prevote-in = stored-in (r .answers .prevote) (left-of (stored (r .table .parents) (r .table .count) (r .graph .base) (r .answers .prevote)) _ (passed .4))
+
+    pub precommit-in : In-base (r .table .parents) (r .graph .base) (r .answers .precommit)
+    unfolding all-stored
+    precommit-in =
+        let a = right-of (stored (r .table .parents) (r .table .count) (r .graph .base) (r .answers .prevote)) _ (passed .4) in
+        stored-in (r .answers .precommit) (left-of (stored (r .table .parents) (r .table .count) (r .graph .base) (r .answers .precommit)) _ a)
+
+    pub shaped-ready : Ready (frame r) (held r)
+    shaped-ready =
+        record {
+          voters-few = good-means (r .context .voters) (true-T _ (passed .1)) .few;
+          sound = graph-kept .sound;
+          apart = λ x y h k d e.
+              d (graph-kept .table .distinct (col (r .table .ids) y) x y (record { inside = h; named = e }) (record { inside = k; named = refl }));
+          stored = prevote-in;
+          room = λ j h l. written-room (r .votes) (sized-says (passed .2) .wide .times-size) (r .history .entries) (r .history .count) (recorded .history) j h l;
+        }
+
+-- columns as they are lent, with the words of the rows beside
+abbrev pub lent : Round → List (List ℕ) → Columns
+lent r w =
+    record {
+      used = r .graph .used;
+      above = r .graph .above;
+      rows = w;
+      order = r .graph .order;
+      listed = r .graph .listed;
+      heads = r .graph .heads;
+      tips = r .graph .tips;
+    }
+
+abbrev pub held-lent : Round → List (List ℕ) → Held
+held-lent r w =
+    record {
+      graph = lent r w;
+      votes = r .votes;
+      entries = r .history .entries;
+      count = r .history .count;
+      equivocations = r .context .equivocations;
+      heard = r .heard;
+      answers = r .answers;
+    }
+
+module _ (r : Round) (t : T (shaped r)) (w : List (List ℕ)) (e : w ≡ words-of (r .graph .rows)) where
+  pub lent-ready : Ready (frame r) (held-lent r w)
+  lent-ready = rw e (shaped-ready r t)
+
+  pub lent-grounded : Grounded (r .table .parents) (r .graph .base) (lent r w)
+  lent-grounded = rw e (record { ids = r .table .ids; count = r .table .count; sound = graph-kept r t .sound })
+
+  pub import-done : (phase : Phase) (signer : ℕ) (p : Pair) (x : Taken) → x ≡ import (frame r) phase signer p (held-lent r w)
+      → (rows : List Row) → rows ≡ rows-of (x .held .graph .rows)
+      → _≡_ {A = Imported}
+      (record {
+        answer = x .answer;
+        round = record {
+          number = r .number;
+          context = record { voters = r .context .voters; equivocations = x .held .equivocations };
+          table = r .table;
+          graph = record {
+            base = r .graph .base;
+            used = x .held .graph .used;
+            above = x .held .graph .above;
+            rows = rows;
+            order = x .held .graph .order;
+            listed = x .held .graph .listed;
+            heads = x .held .graph .heads;
+            tips = x .held .graph .tips;
+          };
+          votes = x .held .votes;
+          history = record {
+            entries = x .held .entries;
+            count = x .held .count;
+            prevoted = r .history .prevoted;
+            precommitted = r .history .precommitted;
+          };
+          heard = x .held .heard;
+          answers = x .held .answers;
+        };
+      })
+      (imported phase signer p r)
+  unfolding imported
+  import-done phase signer p x q rows i = rw (i, q, e)
+
+  pub sought-done : (o : Found)
+      → o ≡ phase-ghost (scene (frame r) (held-lent r w)) Precommit (r .heard .precommit) (r .answers .precommit) → o ≡ sought r
+  unfolding sought
+  sought-done o q = rw e at q
+
+-- the rows keep their size over a vote
+pub import-sized : (f : Frame) (h : Held) → Ready f h → (phase : Phase) (signer : ℕ) (p : Pair)
+    → length (import f phase signer p h .held .graph .rows) ≡ 256
+unfolding import
+import-sized f h ready phase signer p = go (verdict f phase signer p h) refl
+  where
+    go : (x : Verdict) → verdict f phase signer p h ≡ x → length (apply f phase signer p h x .held .graph .rows) ≡ 256
+    go (verdicts.Nothing a) e = ready .sound .rows-size
+    go (verdicts.First v b) e = first-grounded f h ready phase signer p v b e _ _ refl .sound .rows-size
+    go (verdicts.Second v a) e = ready .sound .rows-size
