@@ -7,6 +7,7 @@ use Rattle.weights.specs.Weights.{most}
 use Rattle.grandpa.specs.Vote.{Vote, silent, total, heard, unheard}
 use Rattle.grandpa.proofs.Votes.{heard-unheard}
 use Rattle.voter_set.specs.Good.{Good}
+use Rattle.voter_laws.proofs.Goods.{total-used}
 use Rattle.block_shape.specs.Shape.{Shaped}
 use Rattle.context.specs.declared.Phase.{Phase}
 use Rattle.context.specs.declared.Phase.the-variants.{Prevote, Precommit}
@@ -88,6 +89,12 @@ module _ (f : Frame) (h : Held) where
 
   -- in each phase the voters heard and the others make the whole
   pub heard-whole : Kept f h → (phase : Phase)
-      → heard-in phase (h .heard) + unheard (voters (setting f h)) (votes (setting f h) phase) ≡ total (voters (setting f h))
-  heard-whole k Prevote = omega (arith, k .prevotes-heard, heard-unheard (voters (setting f h)) (votes (setting f h) Prevote))
-  heard-whole k Precommit = omega (arith, k .precommits-heard, heard-unheard (voters (setting f h)) (votes (setting f h) Precommit))
+      → heard-in phase (h .heard) + unheard (voters (setting f h)) (votes (setting f h) phase) ≡ f .voters .total
+  heard-whole k Prevote =
+      omega (arith, k .prevotes-heard, heard-unheard (voters (setting f h)) (votes (setting f h) Prevote), total-used (f .voters) (k .good))
+  heard-whole k Precommit =
+      omega (arith, k .precommits-heard, heard-unheard (voters (setting f h)) (votes (setting f h) Precommit), total-used (f .voters) (k .good))
+
+  -- so that no heard weight passes the largest
+  pub heard-le : Kept f h → (phase : Phase) → heard-in phase (h .heard) ≤ f .voters .total
+  heard-le k phase = omega (arith, heard-whole k phase)
