@@ -21,7 +21,7 @@ use Rattle.judging.specs.declared.Verdict.the-variants.{Nothing, First, Second}
 use Rattle.answer_laws.specs.Faithful.{Faithful}
 use Rattle.answer_laws.proofs.Kept.{told-seated}
 use Rattle.importing.specs.Import.{Frame, Held, scene, updated, with-first, with-second, apply, verdict, import}
-use Rattle.held_laws.specs.Kept.{setting, Kept}
+use Rattle.held_laws.specs.Kept.{setting, Kept, Untaken}
 use Rattle.held_laws.proofs.Parts.{faithful-kept}
 use Rattle.held_laws.proofs.Votes.{bit-fits}
 use Rattle.held_laws.proofs.Steps.{first-silent, first-in-set, first-in-base, first-in-table, first-apart, first-few, first-kept-faithful, second-once, second-in-set, second-few, second-kept-faithful}
@@ -70,3 +70,14 @@ module _ (f : Frame) (h : Held) (k : Kept f h) (phase : Phase) (signer : ℕ) (p
       go (Nothing a) e = k
       go (First v b) e = first-keeps v b e
       go (Second v a) e = second-keeps v a e
+
+-- a vote that is not taken changes nothing, whatever the state
+pub import-refused : (f : Frame) (phase : Phase) (signer : ℕ) (p : Pair) (h : Held) → Untaken (import f phase signer p h .answer)
+    → import f phase signer p h .held ≡ h
+unfolding import
+import-refused f phase signer p h = go (verdict f phase signer p h)
+  where
+    go : (d : Verdict) → Untaken (apply f phase signer p h d .answer) → apply f phase signer p h d .held ≡ h
+    go (Nothing a) u = refl
+    go (First v b) u = absurd u
+    go (Second v a) u = absurd u

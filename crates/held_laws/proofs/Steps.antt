@@ -104,10 +104,6 @@ module _ (f : Frame) (h : Held) (k : Kept f h) (phase : Phase) (signer : ℕ) (p
     pub second-few : bit phase (v .position) < 128
     second-few = omega (arith, bit-fits phase (v .position) (f .voters .count) second-in-set, k .good .few)
 
-    -- the block of the first vote
-    abbrev pub aim : ℕ
-    aim = col (h .votes .places) (bit phase (v .position))
-
     pub second-spoken : votes (setting f h) phase (v .position) ≡ once (col (h .votes .places) (bit phase (v .position)))
     second-spoken = cast-once (h .votes) (k .wide) (bit phase (v .position)) second-few second-once
 

@@ -14,6 +14,8 @@ use Rattle.tracker.specs.Recorded.{cast}
 use Rattle.vote_shape_laws.specs.Recorded.{Recorded, Wide}
 use Rattle.answer_laws.specs.Faithful.{Setting, voters, votes}
 use Rattle.answer_laws.specs.Seats.{All-seated}
+use Rattle.judging.specs.declared.ImportResult.{ImportResult}
+use Rattle.judging.specs.declared.ImportResult.the-variants.{Outside, Counted, Duplicated, Equivocated, Ignored, Refused}
 use Rattle.importing.specs.Import.{Frame, Held}
 
 -- the round as the laws of the answers see it
@@ -45,3 +47,12 @@ pub record Kept (f : Frame) (h : Held) : Type 0 where
   pub prevotes-heard : h .heard .prevote ≡ heard (voters (setting f h)) (votes (setting f h) Prevote)
   pub precommits-heard : h .heard .precommit ≡ heard (voters (setting f h)) (votes (setting f h) Precommit)
   pub seated : All-seated (f .table .parents) (f .base) (f .table .count) (h .answers)
+
+-- the answers of votes that are not taken: of a stranger, refused, a duplicate, a third
+abbrev pub Untaken : ImportResult → Type 0
+Untaken Outside = Unit {0}
+Untaken (Refused n) = Unit {0}
+Untaken Duplicated = Unit {0}
+Untaken Ignored = Unit {0}
+Untaken Counted = ⊥
+Untaken (Equivocated x) = ⊥
