@@ -61,9 +61,17 @@ abbrev pub sought : Frame → Held → Held
 sought f h =
     with-answers h (with-precommit (h .answers) (phase-ghost (scene f h) Precommit (h .heard .precommit) (h .answers .precommit)))
 
--- by votes, by blocks that are added, and by asking for the precommit-GHOST; a call that refuses leaves all as it was
-pub data Reached : Frame → Held → Type 0 where
-  opening : (f : Frame) → Opens f → Reached f (opened-held (f .base))
-  voting : (f : Frame) (h : Held) → Reached f h → (phase : Phase) (signer : ℕ) (p : Pair) → Reached f (import f phase signer p h .held)
-  adding : (f : Frame) (h : Held) → Reached f h → (id parent : ℕ) → Reached (with-table f (step (f .table) id parent .table)) h
-  asking : (f : Frame) (h : Held) → Reached f h → Reached f (sought f h)
+-- what calls on a round make of its table and of what it holds: votes, blocks that are added, and asking for the precommit-GHOST; a call
+-- that refuses leaves all as it was
+pub data Comes (f : Frame) (h : Held) : BlockTable → Held → Type 0 where
+  here : Comes f h (f .table) h
+  voted : (t : BlockTable) (i : Held) → Comes f h t i → (phase : Phase) (signer : ℕ) (p : Pair)
+      → Comes f h t (import (with-table f t) phase signer p i .held)
+  added : (t : BlockTable) (i : Held) → Comes f h t i → (id parent : ℕ) → Comes f h (step t id parent .table) i
+  asked : (t : BlockTable) (i : Held) → Comes f h t i → Comes f h t (sought (with-table f t) i)
+
+-- a state that calls make of a round opened on some table
+pub record Reached (f : Frame) (h : Held) : Type 0 where
+  pub table : BlockTable
+  pub opens : Opens (with-table f table)
+  pub calls : Comes (with-table f table) (opened-held (f .base)) (f .table) h
