@@ -1,13 +1,12 @@
 -- A block that is added, and the precommit-GHOST when it is asked for, keep the shape of a round.
-use mathlib.Core.Path.{_≡_, refl, sym, ap, subst, _∙_}
-use Prim.Native.Nat.{ℕ, _≤_, _<_}
+use mathlib.Core.Path.{_≡_, refl, sym, subst}
+use Prim.Native.Nat.{ℕ, _<_}
 use native.Mathlib.Omega.{arith}
 use lib.Dec.{T}
-use Rattle.grandpa.specs.Tree.{below}
 use Rattle.grandpa.specs.Time.{Grown}
 use Rattle.grandpa.proofs.Trees.{below-same}
 use Rattle.blocks.specs.declared.BlockTable.{BlockTable}
-use Rattle.blocks.specs.Table.{blocks, Stands}
+use Rattle.blocks.specs.Table.{blocks}
 use Rattle.blocks.specs.Add.{step}
 use Rattle.block_shape.specs.Shape.{Shaped}
 use Rattle.block_laws.proofs.Adds.{step-keeps, step-grows, step-stands}
@@ -15,8 +14,7 @@ use Rattle.context.specs.declared.Phase.the-variants.{Precommit}
 use Rattle.nodes.specs.declared.Found.{Found}
 use Rattle.nodes.specs.declared.Found.the-variants.{At, Nothing}
 use Rattle.nodes.specs.Nodes.{col}
-use Rattle.answer_laws.specs.Faithful.{Faithful}
-use Rattle.answer_laws.specs.Seats.{Seated, All-seated}
+use Rattle.answer_laws.specs.Seats.{Seated}
 use Rattle.answer_laws.proofs.Kept.{phase-seated}
 use Rattle.answer_laws.proofs.Extended.{sound-more, extended-faithful}
 use Rattle.importing.specs.Import.{Frame, Held, scene}

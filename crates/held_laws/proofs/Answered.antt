@@ -17,7 +17,7 @@ use Rattle.nodes.specs.declared.Found.{Found}
 use Rattle.nodes.specs.Nodes.{col}
 use Rattle.nodes.specs.Columns.{as-found}
 use Rattle.answers.specs.declared.Answers.{Answers}
-use Rattle.answer_laws.specs.Faithful.{Setting, table, voters, votes, Faithful, stored}
+use Rattle.answer_laws.specs.Faithful.{Setting, table, voters, votes, stored}
 use Rattle.answer_laws.specs.Tells.{Tells}
 use Rattle.answer_laws.proofs.Ghosted.{votes-placed}
 use Rattle.answer_laws.proofs.Stays.{tells-meant, within-stored}

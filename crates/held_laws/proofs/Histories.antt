@@ -1,12 +1,11 @@
 -- History has at most four entries a voter: two pairs in each phase.
 use mathlib.Core.Bool.{Bool, true, false, cond}
-use mathlib.Core.List.{List}
-use mathlib.Core.Path.{_≡_, refl, sym, ap, _∙_}
+use mathlib.Core.Path.{_≡_, refl, ap, _∙_}
 use mathlib.Core.Logic.{_≢_}
 use Prim.Native.Nat.{ℕ, _*_, _/_, _%_, _≤_, _<_}
 use native.Mathlib.Decide.{decLe}
 use native.Mathlib.Omega.{arith}
-use lib.Dec.{T, ltb→lt}
+use lib.Dec.{ltb→lt}
 use Rattle.loops.specs.Listing.{times, front}
 use Rattle.loops.proofs.Tests.{T-true}
 use Rattle.loops.proofs.Listings.{length-front}

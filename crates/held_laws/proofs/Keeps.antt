@@ -1,21 +1,13 @@
 -- A vote keeps the shape of a round, and a refused one leaves it as it was.
-use mathlib.Core.Path.{_≡_, refl, sym, ap, subst, _∙_}
-use mathlib.Core.Logic.{_≢_}
-use Prim.Native.Nat.{ℕ, _<_}
-use native.Mathlib.Omega.{arith}
+use mathlib.Core.Path.{_≡_, refl}
+use Prim.Native.Nat.{ℕ}
 use Rattle.voter_info.specs.declared.VoterInfo.{VoterInfo}
 use Rattle.context.specs.declared.Phase.{Phase}
 use Rattle.context.specs.Votes.{bit}
-use Rattle.nodes.specs.Nodes.{col}
-use Rattle.nodes.specs.Columns.{Sound}
-use Rattle.graph_shape.specs.Graphed.{Clear}
 use Rattle.vote_insert.proofs.Keeps.{sound-inserted}
 use Rattle.vote_graph.proofs.Clears.{clear-inserted}
 use Rattle.tracker.specs.declared.Pair.{Pair}
-use Rattle.vote_shape_laws.specs.Recorded.{Tidy, Written, Wide}
 use Rattle.vote_shape_laws.proofs.Keeps.{written-first, written-second, tidy-first, tidy-second, wide-first, wide-second}
-use Rattle.judging.specs.declared.ImportResult.{ImportResult}
-use Rattle.judging.specs.declared.ImportResult.the-variants.{Counted, Equivocated}
 use Rattle.judging.specs.declared.Verdict.{Verdict}
 use Rattle.judging.specs.declared.Verdict.the-variants.{Nothing, First, Second}
 use Rattle.answer_laws.specs.Faithful.{Faithful}

@@ -1,6 +1,6 @@
 -- What calls leave: blocks are added and none changes, and votes come as they may.
-use mathlib.Core.Path.{_≡_, refl, sym, ap, subst, _∙_}
-use Prim.Native.Nat.{ℕ, _≤_, _<_}
+use mathlib.Core.Path.{_≡_, refl, sym, subst, _∙_}
+use Prim.Native.Nat.{ℕ}
 use native.Mathlib.Omega.{arith}
 use Rattle.grandpa.specs.Tree.{Blocks}
 use Rattle.grandpa.specs.Vote.{Vote, silent, once, twice}

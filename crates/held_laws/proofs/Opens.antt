@@ -1,20 +1,19 @@
 -- A round just opened keeps the shape.
 use mathlib.Core.Bool.{cond, Bool}
 use mathlib.Core.Path.{_≡_, refl, sym, ap, subst, fun-ext, _∙_}
-use Prim.Native.Nat.{ℕ, zero, suc, _%_, _/_, _≤_, _<_}
+use Prim.Native.Nat.{ℕ, zero, suc, _%_, _/_}
 use native.Mathlib.Omega.{arith}
-use lib.ListN.{getD, length, replicate}
+use lib.ListN.{replicate}
 use borrow.Author.Tests.{le-ltb}
-use Rattle.loops.specs.Listing.{times, front}
+use Rattle.loops.specs.Listing.{front}
 use Rattle.loops.proofs.Listings.{times-none}
 use Rattle.columns.specs.Lists.{padded}
 use Rattle.grandpa.specs.Vote.{Vote, silent}
 use Rattle.nodes.specs.Nodes.{col}
-use Rattle.vote_insert.specs.Insert.{opened}
 use Rattle.vote_insert.proofs.Opens.{sound-opened}
 use Rattle.vote_graph.proofs.Clears.{clear-opened}
 use Rattle.tracker.specs.Recorded.{cast}
-use Rattle.vote_shape_laws.specs.Recorded.{Tidy, Written, Wide}
+use Rattle.vote_shape_laws.specs.Recorded.{Tidy, Written}
 use Rattle.answer_laws.specs.Faithful.{Faithful}
 use Rattle.answer_laws.specs.Tells.{after}
 use Rattle.answer_laws.proofs.Opened.{opening, opened-faithful}

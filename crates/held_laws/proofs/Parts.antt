@@ -1,17 +1,15 @@
 -- The shape by its parts: what it is for the laws of the answers and for the step, and what makes it.
-use mathlib.Core.Path.{_≡_, refl, sym, ap, _∙_}
+use mathlib.Core.Path.{_≡_, refl, ap}
 use mathlib.Core.Logic.{_≢_}
-use Prim.Native.Nat.{ℕ, _+_, _*_, _≤_, _<_}
+use Prim.Native.Nat.{ℕ, _+_, _≤_, _<_}
 use native.Mathlib.Omega.{arith}
-use Rattle.weights.specs.Weights.{most}
-use Rattle.grandpa.specs.Vote.{Vote, silent, total, heard, unheard}
+use Rattle.grandpa.specs.Vote.{silent, total, heard, unheard}
 use Rattle.grandpa.proofs.Votes.{heard-unheard}
-use Rattle.voter_set.specs.Good.{Good}
 use Rattle.voter_laws.proofs.Goods.{total-used}
 use Rattle.block_shape.specs.Shape.{Shaped}
 use Rattle.context.specs.declared.Phase.{Phase}
 use Rattle.context.specs.declared.Phase.the-variants.{Prevote, Precommit}
-use Rattle.context.specs.Votes.{offset, bit}
+use Rattle.context.specs.Votes.{bit}
 use Rattle.nodes.specs.Nodes.{col}
 use Rattle.nodes.specs.Columns.{Sound}
 use Rattle.graph_shape.specs.Graphed.{Clear}

@@ -1,23 +1,20 @@
 -- What is stored in a reached state tells the four answers: calls keep it so, and the GHOST stays or moves down.
 use mathlib.Core.Option.{Option, none, some}
-use mathlib.Core.Path.{_≡_, refl, sym, ap, subst, _∙_}
+use mathlib.Core.Path.{_≡_, refl, sym, subst}
 use Prim.Native.Nat.{ℕ, pred, _≤_, _<_}
 use native.Mathlib.Omega.{arith}
 use lib.Dec.{T}
-use Rattle.grandpa.specs.Tree.{below}
 use Rattle.grandpa.specs.Vote.{total}
-use Rattle.grandpa.specs.Time.{Grown, Down}
+use Rattle.grandpa.specs.Time.{Down}
 use Rattle.grandpa.proofs.Trees.{below-refl, below-trans, below-same}
-use Rattle.voter_info.specs.declared.VoterInfo.{VoterInfo}
 use Rattle.voter_laws.proofs.Goods.{total-used}
 use Rattle.blocks.specs.declared.BlockTable.{BlockTable}
-use Rattle.blocks.specs.Table.{blocks}
 use Rattle.blocks.specs.Add.{step}
 use Rattle.context.specs.declared.Phase.{Phase}
-use Rattle.context.specs.declared.Phase.the-variants.{Prevote, Precommit}
+use Rattle.context.specs.declared.Phase.the-variants.{Precommit}
 use Rattle.context.specs.Votes.{bit}
 use Rattle.nodes.specs.declared.Found.the-variants as found
-use Rattle.nodes.specs.Nodes.{col, Falls}
+use Rattle.nodes.specs.Nodes.{col}
 use Rattle.tracker.specs.declared.Pair.{Pair}
 use Rattle.judging.specs.declared.Verdict.{Verdict}
 use Rattle.judging.specs.declared.Verdict.the-variants.{Nothing, First, Second}
@@ -29,11 +26,11 @@ use Rattle.answer_laws.proofs.Stays.{opened-tells, precommit-beside, blocks-tel
 use Rattle.answer_laws.proofs.Imported.{first-tells, second-tells}
 use Rattle.importing.specs.Import.{Frame, Held, scene, apply, verdict, import}
 use Rattle.held_laws.specs.Kept.{setting, Kept}
-use Rattle.held_laws.specs.Reached.{opened-held, Opens, with-table, sought, Comes, here, voted, added, asked, Reached}
+use Rattle.held_laws.specs.Reached.{opened-held, with-table, sought, Comes, here, voted, added, asked, Reached}
 use Rattle.held_laws.proofs.Parts.{kept-faithful}
 use Rattle.held_laws.proofs.Opens.{no-cast, opened-kept}
 use Rattle.held_laws.proofs.Steps.{first-quiet, first-in-set, first-in-base, first-in-table, first-apart, setting-first, second-in-set, second-spoken, setting-second}
-use Rattle.held_laws.proofs.Adds.{step-grown, step-ids, adding-keeps}
+use Rattle.held_laws.proofs.Adds.{step-grown}
 use Rattle.held_laws.proofs.Reaches.{comes-kept}
 use Rattle.block_laws.proofs.Adds.{step-keeps}
 

@@ -1,27 +1,26 @@
 -- A recorded pair, as the laws of the answers see it: a first vote and a second of the setting.
-use mathlib.Core.Bool.{Bool, cond}
+use mathlib.Core.Bool.{cond}
 use mathlib.Core.List.{List}
-use mathlib.Core.Path.{_≡_, refl, sym, ap, subst, fun-ext, _∙_}
-use mathlib.Core.Logic.{_≢_}
-use Prim.Native.Nat.{ℕ, _+_, _*_, _≤_, _<_, min}
+use mathlib.Core.Path.{_≡_, refl, sym, ap, _∙_}
+use Prim.Native.Nat.{ℕ, _+_, _*_, _≤_, _<_}
 use native.Mathlib.Decide.{ℕ-discrete}
 use native.Mathlib.Omega.{arith}
-use lib.Dec.{T, eqb}
-use lib.ListN.{getD, set, length}
+use lib.Dec.{eqb}
+use lib.ListN.{getD, set}
 use lib.Seq.{getD-set-same, getD-set-other}
 use borrow.Author.Tests.{eq-eqb, ne-eqb}
 use Rattle.weights.specs.Weights.{most, plus}
 use Rattle.columns.specs.declared.Found.{Found}
 use Rattle.columns.specs.declared.Found.the-variants as found
 use Rattle.columns.specs.Find.{find}
-use Rattle.grandpa.specs.Vote.{Vote, silent, once, twice}
+use Rattle.grandpa.specs.Vote.{once, twice}
 use Rattle.voter_info.specs.declared.VoterInfo.{VoterInfo}
-use Rattle.voter_info.specs.declared.Lookup.the-variants.{Voter, Outside}
+use Rattle.voter_info.specs.declared.Lookup.the-variants.{Voter}
 use Rattle.voter_info.specs.Info.{look-up}
 use Rattle.voter_info.proofs.Infos.{look-up-at, look-up-nothing, info-says}
 use Rattle.context.specs.declared.Phase.{Phase}
 use Rattle.context.specs.declared.Phase.the-variants.{Prevote, Precommit}
-use Rattle.context.specs.Votes.{offset, bit}
+use Rattle.context.specs.Votes.{bit}
 use Rattle.graph.specs.Shape.{with-vote}
 use Rattle.nodes.specs.Nodes.{col}
 use Rattle.tracker.specs.declared.Votes.{Votes}

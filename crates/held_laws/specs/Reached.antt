@@ -15,7 +15,6 @@ use Rattle.vote_insert.specs.Insert.{opened}
 use Rattle.tracker.specs.declared.Votes.{Votes}
 use Rattle.tracker.specs.declared.Pair.{Pair}
 use Rattle.answers.specs.declared.Answers.{Answers}
-use Rattle.answers.specs.declared.Heard.{Heard}
 use Rattle.answers.specs.Update.{phase-ghost, with-precommit}
 use Rattle.importing.specs.Import.{Frame, Held, scene, with-answers, import}
 
