@@ -35,7 +35,13 @@ found-again none = refl
 found-again (some x) = refl
 
 pub answered-stored : (p : Found) (x : Told) → answered (stored p x) ≡ x
-answered-stored p x = rw (found-again (x .ghost), found-again (x .finalized), found-again (x .estimate))
+answered-stored p x =
+    λ i. record {
+      ghost = found-again (x .ghost) i;
+      finalized = found-again (x .finalized) i;
+      estimate = found-again (x .estimate) i;
+      completable = x .completable;
+    }
 
 tells-answered : (k : Setting) (o : Option ℕ) (a : Answers) → Tells k o a
     → answered a ≡ told-from (voters k) (table k) (k .base) (votes k Prevote) (votes k Precommit) o
