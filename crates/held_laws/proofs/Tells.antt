@@ -105,7 +105,7 @@ module _ (f : Frame) (h : Held) (k : Kept f h) (o : Option ℕ) (tells : Tells (
       let before = comes-tells t i c in
       (before .0, before .1, sought-tells (with-table f t) i (comes-kept f h k t i c) (before .0) (before .2))
 
--- some voter: the set of document 01 has one, its shape rules do not say so
+-- of a set with a weight: refusal 3 makes no other, and the shape rules do not say so
 pub reached-tells : (f : Frame) (h : Held) → Reached f h → 0 < f .voters .total → (o : Option ℕ) × Tells (setting f h) o (h .answers)
 reached-tells f h r some-weight =
     let first = with-table f (r .table) in
