@@ -1,0 +1,4 @@
+pub mod Kept
+pub mod Reached
+pub mod Answered
+pub mod Tested
