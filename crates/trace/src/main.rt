@@ -3,7 +3,7 @@ use answers::Heard;
 use blocks::Answer;
 use blocks::Place;
 use context::Phase;
-use importing::ImportResult;
+use judging::ImportResult;
 use importing::Standing;
 use libc::STDIN_FILENO;
 use libc::STDOUT_FILENO;
@@ -202,7 +202,7 @@ fn refused_from(out: &mut [u8], at: usize, n: u64, k: u64) -> usize {
     put(out, d, b"\n")
 }
 
-fn replay(s: &[u8], out: &mut [u8]) -> usize {
+fn replay(s: &[u8], out: &mut [u8], quiet: bool) -> usize {
     let mut o = 0;
     let mut votes = 0u64;
     let mut at = 0;
@@ -426,6 +426,9 @@ fn replay(s: &[u8], out: &mut [u8]) -> usize {
             }
             _ => {}
         }
+        if quiet {
+            continue;
+        }
         o = put(out, o, b"vote ");
         o = put_num(out, o, votes);
         if valid {
@@ -586,8 +589,20 @@ fn main() {
             break;
         }
         let n = u32_at(&head, 0) as usize;
+        if 2147483648 <= n {
+            let four = io::read_full(STDIN_FILENO, &mut head);
+            let mut repeats = u32_at(&head, 0) + (four as u32) - 4;
+            let m = io::read_full(STDIN_FILENO, &mut space[..n - 2147483648]);
+            let mut last = 0;
+            while 0 < repeats {
+                last = replay(&space[..m], &mut out[4..], true);
+                repeats -= 1;
+            }
+            io::write_all(STDOUT_FILENO, &out[4..4 + last]);
+            continue;
+        }
         let m = io::read_full(STDIN_FILENO, &mut space[..n]);
-        let o = replay(&space[..m], &mut out[4..]);
+        let o = replay(&space[..m], &mut out[4..], false);
         out[0] = (o % 256) as u8;
         out[1] = (o / 256 % 256) as u8;
         out[2] = (o / 65536 % 256) as u8;
