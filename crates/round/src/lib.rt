@@ -8,6 +8,7 @@ ghost use Rattle.vote_shape.specs.Voted.{voted};
 ghost use Rattle.vote_shape_laws.specs.Recorded.{Wide};
 ghost use Rattle.context.specs.declared.Phase.the-variants.{Prevote, Precommit};
 ghost use Rattle.round.specs.Shape.{index-fits, shaped};
+ghost use Rattle.round.specs.Ask.{index-number, number, threshold, prevoted-index, precommitted-index, completable, estimate, finalized, base};
 ghost use Rattle.round.specs.Calls.{no-votes, no-answers, opened, nobody, no-blocks, new, add-block, imported, import-vote, sought, with-sought, precommit-ghost, marked, set-index, block-of};
 use answers::Answers;
 use answers::Heard;
@@ -82,6 +83,19 @@ pub enum Told {
 pub struct Asked {
     pub answer: Told,
     pub round: Round,
+}
+
+// A number that may be absent.
+pub enum Number {
+    Is(u64),
+    Nothing,
+    Refused(u8),
+}
+
+pub enum Whether {
+    Yes,
+    No,
+    Refused(u8),
 }
 
 fn no_answers() -> Answers
@@ -211,6 +225,15 @@ fn block_of<'a>(ids: &'a [u32; 256], numbers: &'a [u32; 256], found: Found) -> T
             Told::Block(ids[at], numbers[at])
         }
         Found::Nothing => Told::Nothing,
+    }
+}
+
+fn index_number(index: Index) -> Number
+    ensures { λ r. ⌜ r ≡ index-number index ⌝ }
+{
+    match index {
+        Index::At(seen) => Number::Is(seen),
+        Index::Nothing => Number::Nothing,
     }
 }
 
@@ -586,5 +609,96 @@ impl Round {
             answer: Done::Yes,
             round: self,
         }
+    }
+
+    // The calls from here on only read.
+    pub fn number(self) -> Number
+        ensures { λ r. ⌜ r ≡ number self ⌝ }
+    {
+        if !self.is_round() {
+            return Number::Refused(9);
+        }
+        Number::Is(self.number)
+    }
+
+    pub fn threshold(self) -> Number
+        ensures { λ r. ⌜ r ≡ threshold self ⌝ }
+    {
+        if !self.is_round() {
+            return Number::Refused(9);
+        }
+        let context = self.context;
+        let voters = context.voters;
+        Number::Is(voters.threshold)
+    }
+
+    pub fn prevoted_index(self) -> Number
+        ensures { λ r. ⌜ r ≡ prevoted-index self ⌝ }
+    {
+        if !self.is_round() {
+            return Number::Refused(9);
+        }
+        let history = self.history;
+        let prevoted = history.prevoted;
+        index_number(prevoted)
+    }
+
+    pub fn precommitted_index(self) -> Number
+        ensures { λ r. ⌜ r ≡ precommitted-index self ⌝ }
+    {
+        if !self.is_round() {
+            return Number::Refused(9);
+        }
+        let history = self.history;
+        let precommitted = history.precommitted;
+        index_number(precommitted)
+    }
+
+    pub fn completable(self) -> Whether
+        ensures { λ r. ⌜ r ≡ completable self ⌝ }
+    {
+        if !self.is_round() {
+            return Whether::Refused(9);
+        }
+        let answers = self.answers;
+        if answers.completable {
+            return Whether::Yes;
+        }
+        Whether::No
+    }
+
+    pub fn estimate(self) -> Told
+        ensures { λ r. ⌜ r ≡ estimate self ⌝ }
+    {
+        if !self.is_round() {
+            return Told::Refused(9);
+        }
+        let table = self.table;
+        let answers = self.answers;
+        let found = answers.estimate;
+        block_of(&table.ids, &table.numbers, found)
+    }
+
+    pub fn finalized(self) -> Told
+        ensures { λ r. ⌜ r ≡ finalized self ⌝ }
+    {
+        if !self.is_round() {
+            return Told::Refused(9);
+        }
+        let table = self.table;
+        let answers = self.answers;
+        let found = answers.finalized;
+        block_of(&table.ids, &table.numbers, found)
+    }
+
+    pub fn base(self) -> Told
+        ensures { λ r. ⌜ r ≡ base self ⌝ }
+    {
+        if !self.is_round() {
+            return Told::Refused(9);
+        }
+        let table = self.table;
+        let graph = self.graph;
+        block_of(&table.ids, &table.numbers, Found::At(graph.base))
     }
 }
