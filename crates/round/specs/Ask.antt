@@ -1,6 +1,15 @@
 -- The calls that only read a round. Document 01, "Refusal numbers": 9 first where a state is taken, also where it is only read.
 use mathlib.Core.Bool.{Bool, true, false, cond}
 use Prim.Native.Nat.{ℕ}
+use Rattle.voter_set.specs.declared.Nth.{Nth}
+use Rattle.voter_set.specs.declared.Nth.the-variants as nth
+use Rattle.voter_set.specs.Lookup.{nth-mod}
+use Rattle.context.specs.declared.Phase.{Phase}
+use Rattle.context.specs.declared.Phase.the-variants.{Prevote, Precommit}
+use Rattle.context.specs.Votes.{heardIn}
+use Rattle.vote_graph.specs.declared.VoteGraph.{VoteGraph}
+use Rattle.vote_graph.specs.Shape.{columns}
+use Rattle.nodes.specs.Nodes.{row}
 use Rattle.nodes.specs.declared.Found.{Found}
 use Rattle.nodes.specs.declared.Found.the-variants as found
 use Rattle.round.specs.declared.Index.{Index}
@@ -12,8 +21,17 @@ use Rattle.round.specs.declared.Number.{Number}
 use Rattle.round.specs.declared.Number.the-variants as number-of
 use Rattle.round.specs.declared.Whether.{Whether}
 use Rattle.round.specs.declared.Whether.the-variants as whether
+use Rattle.round.specs.declared.Participation.{Participation}
+use Rattle.round.specs.declared.Participation.the-variants as participation
+use Rattle.round.specs.declared.Primary.{Primary}
+use Rattle.round.specs.declared.Primary.the-variants as primary
+use Rattle.round.specs.declared.State.{State}
+use Rattle.round.specs.declared.Answered.{Answered}
+use Rattle.round.specs.declared.Answered.the-variants as answered
+use Rattle.round.specs.declared.Done.the-variants as done
+use Rattle.round.specs.declared.Voters.{Voters}
 use Rattle.round.specs.Shape.{shaped}
-use Rattle.round.specs.Calls.{block-of}
+use Rattle.round.specs.Calls.{block-of, nobody}
 
 abbrev pub told-number : Round → Number → Number
 told-number r n = cond (shaped r) n (number-of.Refused 9)
@@ -49,3 +67,41 @@ finalized r = told-block r (r .answers .finalized)
 
 unfoldable pub base : Round → Told
 base r = told-block r (found.At (r .graph .base))
+
+-- voters heard in a phase: the base's node has every vote
+unfoldable pub heard-in : VoteGraph → Phase → ℕ
+heard-in g phase = heardIn (row (columns g .rows) (g .base)) phase
+
+abbrev pub told-heard : Round → ℕ → Phase → Participation
+told-heard r weight phase = cond (shaped r) (participation.Heard weight (heard-in (r .graph) phase)) (participation.Refused 9)
+
+unfoldable pub prevote-participation : Round → Participation
+prevote-participation r = told-heard r (r .heard .prevote) Prevote
+
+unfoldable pub precommit-participation : Round → Participation
+precommit-participation r = told-heard r (r .heard .precommit) Precommit
+
+abbrev pub primary-of : Nth → Primary
+primary-of (nth.Place id info) = primary.Voter id info
+primary-of nth.Beyond = primary.Nothing
+
+-- the voter at the round's number, which wraps around
+unfoldable pub primary-voter : Round → Primary
+primary-voter r = cond (shaped r) (primary-of (nth-mod (r .context .voters) (r .number))) (primary.Refused 9)
+
+-- the stored answers
+abbrev pub state-of : Round → State
+state-of r =
+    record {
+      prevote = block-of (r .table .ids) (r .table .numbers) (r .answers .prevote);
+      finalized = block-of (r .table .ids) (r .table .numbers) (r .answers .finalized);
+      estimate = block-of (r .table .ids) (r .table .numbers) (r .answers .estimate);
+      completable = r .answers .completable;
+    }
+
+unfoldable pub state : Round → Answered
+state r = cond (shaped r) (answered.Is (state-of r)) (answered.Refused 9)
+
+unfoldable pub voters : Round → Voters
+voters r =
+    cond (shaped r) (record { answer = done.Yes; voters = r .context .voters }) (record { answer = done.Refused 9; voters = nobody })

@@ -8,7 +8,7 @@ ghost use Rattle.vote_shape.specs.Voted.{voted};
 ghost use Rattle.vote_shape_laws.specs.Recorded.{Wide};
 ghost use Rattle.context.specs.declared.Phase.the-variants.{Prevote, Precommit};
 ghost use Rattle.round.specs.Shape.{index-fits, shaped};
-ghost use Rattle.round.specs.Ask.{index-number, number, threshold, prevoted-index, precommitted-index, completable, estimate, finalized, base};
+ghost use Rattle.round.specs.Ask.{primary-of, heard-in, prevote-participation, precommit-participation, primary-voter, state, voters, index-number, number, threshold, prevoted-index, precommitted-index, completable, estimate, finalized, base};
 ghost use Rattle.round.specs.Calls.{no-votes, no-answers, opened, nobody, no-blocks, new, add-block, imported, import-vote, sought, with-sought, precommit-ghost, marked, set-index, block-of};
 use answers::Answers;
 use answers::Heard;
@@ -23,6 +23,8 @@ use nodes::Found;
 use tracker::Pair;
 use tracker::Votes;
 use vote_graph::VoteGraph;
+use voter_info::VoterInfo;
+use voter_set::Nth;
 use voter_set::VoterSet;
 
 // How many votes had been seen when this desk voted itself.
@@ -96,6 +98,36 @@ pub enum Whether {
     Yes,
     No,
     Refused(u8),
+}
+
+// The weight heard in a phase, and how many voters.
+pub enum Participation {
+    Heard(u64, u32),
+    Refused(u8),
+}
+
+pub enum Primary {
+    Voter(u32, VoterInfo),
+    Nothing,
+    Refused(u8),
+}
+
+// `State` of round.rs.
+pub struct State {
+    pub prevote: Told,
+    pub finalized: Told,
+    pub estimate: Told,
+    pub completable: bool,
+}
+
+pub enum Answered {
+    Is(State),
+    Refused(u8),
+}
+
+pub struct Voters {
+    pub answer: Done,
+    pub voters: VoterSet,
 }
 
 fn no_answers() -> Answers
@@ -235,6 +267,25 @@ fn index_number(index: Index) -> Number
         Index::At(seen) => Number::Is(seen),
         Index::Nothing => Number::Nothing,
     }
+}
+
+fn primary_of(nth: Nth) -> Primary
+    ensures { λ r. ⌜ r ≡ primary-of nth ⌝ }
+{
+    match nth {
+        Nth::Place(id, info) => Primary::Voter(id, info),
+        Nth::Beyond => Primary::Nothing,
+    }
+}
+
+// Voters heard in a phase: those of the base's row, under which every vote is.
+fn heard_in(graph: VoteGraph, phase: Phase) -> u32
+    ensures { λ r. ⌜ r ≡ heard-in graph phase ⌝ }
+{
+    let rows = graph.rows;
+    let row = rows[climbs::wide(graph.base)];
+    let bits = row.bits;
+    context::weighing::heard(bits, phase)
 }
 
 fn marked(history: History, phase: Phase) -> History
@@ -700,5 +751,81 @@ impl Round {
         let table = self.table;
         let graph = self.graph;
         block_of(&table.ids, &table.numbers, Found::At(graph.base))
+    }
+
+    pub fn prevote_participation(self) -> Participation
+        ensures { λ r. ⌜ r ≡ prevote-participation self ⌝ }
+    {
+        if !self.is_round() {
+            return Participation::Refused(9);
+        }
+        let graph = self.graph;
+        let count = heard_in(graph, Phase::Prevote);
+        let heard = self.heard;
+        Participation::Heard(heard.prevote, count)
+    }
+
+    pub fn precommit_participation(self) -> Participation
+        ensures { λ r. ⌜ r ≡ precommit-participation self ⌝ }
+    {
+        if !self.is_round() {
+            return Participation::Refused(9);
+        }
+        let graph = self.graph;
+        let count = heard_in(graph, Phase::Precommit);
+        let heard = self.heard;
+        Participation::Heard(heard.precommit, count)
+    }
+
+    pub fn primary_voter(self) -> Primary
+        ensures { λ r. ⌜ r ≡ primary-voter self ⌝ }
+    {
+        if !self.is_round() {
+            return Primary::Refused(9);
+        }
+        let context = self.context;
+        let voters = context.voters;
+        let nth = voters.nth_mod(self.number as usize);
+        primary_of(nth)
+    }
+
+    pub fn state(self) -> Answered
+        ensures { λ r. ⌜ r ≡ state self ⌝ }
+    {
+        if !self.is_round() {
+            return Answered::Refused(9);
+        }
+        let table = self.table;
+        let answers = self.answers;
+        let found = answers.prevote;
+        let prevote = block_of(&table.ids, &table.numbers, found);
+        let found = answers.finalized;
+        let finalized = block_of(&table.ids, &table.numbers, found);
+        let found = answers.estimate;
+        let estimate = block_of(&table.ids, &table.numbers, found);
+        let told = State {
+            prevote,
+            finalized,
+            estimate,
+            completable: answers.completable,
+        };
+        Answered::Is(told)
+    }
+
+    pub fn voters(self) -> Voters
+        ensures { λ r. ⌜ r ≡ voters self ⌝ }
+    {
+        if !self.is_round() {
+            return Voters {
+                answer: Done::Refused(9),
+                voters: nobody(),
+            };
+        }
+        let context = self.context;
+        let voters = context.voters;
+        Voters {
+            answer: Done::Yes,
+            voters,
+        }
     }
 }
