@@ -1,6 +1,16 @@
 -- The calls that only read a round. Document 01, "Refusal numbers": 9 first where a state is taken, also where it is only read.
 use mathlib.Core.Bool.{Bool, true, false, cond}
-use Prim.Native.Nat.{ℕ}
+use mathlib.Core.List.{List}
+use Prim.Native.Nat.{ℕ, _*_}
+use Rattle.loops.specs.Listing.{front, keep}
+use Rattle.voter_set.specs.declared.VoterSet.{VoterSet}
+use Rattle.blocks.specs.declared.BlockTable.{BlockTable}
+use Rattle.tracker.specs.declared.Votes.{Votes}
+use Rattle.listing.specs.declared.Wanted.{Wanted}
+use Rattle.listing.specs.declared.Wanted.the-variants as wanted
+use Rattle.listing.specs.declared.Written.the-variants as answer
+use Rattle.listing.specs.Entries.{counting, wants}
+use Rattle.listing.specs.Written.{Lent, record-of, written}
 use Rattle.voter_set.specs.declared.Nth.{Nth}
 use Rattle.voter_set.specs.declared.Nth.the-variants as nth
 use Rattle.voter_set.specs.Lookup.{nth-mod}
@@ -105,3 +115,37 @@ state r = cond (shaped r) (answered.Is (state-of r)) (answered.Refused 9)
 unfoldable pub voters : Round → Voters
 voters r =
     cond (shaped r) (record { answer = done.Yes; voters = r .context .voters }) (record { answer = done.Refused 9; voters = nobody })
+
+-- lists of records in a lent buffer. Document 01, "The four answers"; "Refusal numbers": 9, then 15, then 14; a refusal leaves the buffer
+-- untouched.
+unfoldable pub records : List ℕ → VoterSet → BlockTable → Votes → List ℕ → Lent
+records es voters table v out = written (record-of v (voters .ids) (table .ids) (table .numbers)) es out
+
+-- the wanted votes by rising voter
+unfoldable pub entries-of : Wanted → Round → List ℕ
+entries-of w r = keep (wants (r .votes .times) (r .votes .places) (r .table .parents) w) (counting (4 * r .context .voters .count))
+
+unfoldable pub listed : Wanted → Round → List ℕ → Lent
+listed w r out = records (entries-of w r) (r .context .voters) (r .table) (r .votes) out
+
+abbrev pub refused : ℕ → List ℕ → Lent
+refused n out = record { answer = answer.Refused n; bytes = out }
+
+-- `prevotes`, `precommits`
+unfoldable pub votes-of : Phase → Round → List ℕ → Lent
+votes-of phase r out = cond (shaped r) (listed (wanted.Of phase) r out) (refused 9 out)
+
+-- every recorded vote in arrival order
+unfoldable pub historical-votes : Round → List ℕ → Lent
+historical-votes r out =
+    cond (shaped r)
+    (records (front (r .history .count) (r .history .entries)) (r .context .voters) (r .table) (r .votes) out)
+    (refused 9 out)
+
+-- 15 where nothing is finalized
+abbrev pub finalizing : Round → List ℕ → Found → Lent
+finalizing r out (found.At b) = listed (wanted.Finalizing b) r out
+finalizing r out found.Nothing = refused 15 out
+
+unfoldable pub finalizing-precommits : Round → List ℕ → Lent
+finalizing-precommits r out = cond (shaped r) (finalizing r out (r .answers .finalized)) (refused 9 out)

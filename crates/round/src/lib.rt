@@ -3,12 +3,15 @@
 ghost use mathlib.Core.Path.{_≡_};
 ghost use lib.Dec.{T};
 ghost use lib.ListN.{length};
+ghost use Prim.Native.Nat.{_≤_};
+ghost use Rattle.loops.specs.Listing.{front};
+ghost use Rattle.listing.specs.Written.{Lent};
 ghost use Rattle.nodes.specs.Nodes.{Falls};
 ghost use Rattle.vote_shape.specs.Voted.{voted};
 ghost use Rattle.vote_shape_laws.specs.Recorded.{Wide};
 ghost use Rattle.context.specs.declared.Phase.the-variants.{Prevote, Precommit};
 ghost use Rattle.round.specs.Shape.{index-fits, shaped};
-ghost use Rattle.round.specs.Ask.{primary-of, heard-in, prevote-participation, precommit-participation, primary-voter, state, voters, index-number, number, threshold, prevoted-index, precommitted-index, completable, estimate, finalized, base};
+ghost use Rattle.round.specs.Ask.{records, listed, votes-of, historical-votes, finalizing-precommits, primary-of, heard-in, prevote-participation, precommit-participation, primary-voter, state, voters, index-number, number, threshold, prevoted-index, precommitted-index, completable, estimate, finalized, base};
 ghost use Rattle.round.specs.Calls.{no-votes, no-answers, opened, nobody, no-blocks, new, add-block, imported, import-vote, sought, with-sought, precommit-ghost, marked, set-index, block-of};
 use answers::Answers;
 use answers::Heard;
@@ -19,6 +22,8 @@ use context::Context;
 use context::Phase;
 use importing::Standing;
 use judging::ImportResult;
+use listing::Wanted;
+use listing::Written;
 use nodes::Found;
 use tracker::Pair;
 use tracker::Votes;
@@ -286,6 +291,34 @@ fn heard_in(graph: VoteGraph, phase: Phase) -> u32
     let row = rows[climbs::wide(graph.base)];
     let bits = row.bits;
     context::weighing::heard(bits, phase)
+}
+
+// Records of recorded votes from the start of what is lent: those of a list of entries.
+fn records(
+    entries: [u8; 256],
+    count: usize,
+    voters: VoterSet,
+    table: BlockTable,
+    votes: Votes,
+    out: &mut [u8],
+) -> Written
+    requires { ⌜ count ≤ 256 ⌝ }
+    ensures { λ r. ⌜ _≡_ {A = Lent} (record { answer = r; bytes = now (out .exit) }) (records (front count entries) voters table votes (now (out .entry))) ⌝ }
+{
+    listing::write(
+        &entries,
+        count,
+        &votes.times,
+        &votes.places,
+        &votes.signatures,
+        &votes.targets,
+        &votes.numbers,
+        &votes.seconds,
+        &voters.ids,
+        &table.ids,
+        &table.numbers,
+        out,
+    )
 }
 
 fn marked(history: History, phase: Phase) -> History
@@ -827,5 +860,74 @@ impl Round {
             answer: Done::Yes,
             voters,
         }
+    }
+
+    // The wanted votes of a round that keeps the shape rules, by rising voter.
+    fn listed(self, wanted: Wanted, out: &mut [u8]) -> Written
+        requires { ⌜ T (shaped self) ⌝ }
+        ensures { λ r. ⌜ _≡_ {A = Lent} (record { answer = r; bytes = now (out .exit) }) (listed wanted self (now (out .entry))) ⌝ }
+    {
+        let context = self.context;
+        let voters = context.voters;
+        let table = self.table;
+        let votes = self.votes;
+        let list = listing::entries_of(
+            &votes.times,
+            &votes.places,
+            &table.parents,
+            voters.count,
+            wanted,
+        );
+        let entries = list.places;
+        records(entries, list.count, voters, table, votes, out)
+    }
+
+    pub fn prevotes(self, out: &mut [u8]) -> Written
+        ensures { λ r. ⌜ _≡_ {A = Lent} (record { answer = r; bytes = now (out .exit) }) (votes-of Prevote self (now (out .entry))) ⌝ }
+    {
+        if !self.is_round() {
+            return Written::Refused(9);
+        }
+        self.listed(Wanted::Of(Phase::Prevote), out)
+    }
+
+    pub fn precommits(self, out: &mut [u8]) -> Written
+        ensures { λ r. ⌜ _≡_ {A = Lent} (record { answer = r; bytes = now (out .exit) }) (votes-of Precommit self (now (out .entry))) ⌝ }
+    {
+        if !self.is_round() {
+            return Written::Refused(9);
+        }
+        self.listed(Wanted::Of(Phase::Precommit), out)
+    }
+
+    // Every recorded vote in arrival order.
+    pub fn historical_votes(self, out: &mut [u8]) -> Written
+        ensures { λ r. ⌜ _≡_ {A = Lent} (record { answer = r; bytes = now (out .exit) }) (historical-votes self (now (out .entry))) ⌝ }
+    {
+        if !self.is_round() {
+            return Written::Refused(9);
+        }
+        let context = self.context;
+        let voters = context.voters;
+        let table = self.table;
+        let votes = self.votes;
+        let history = self.history;
+        let entries = history.entries;
+        records(entries, history.count, voters, table, votes, out)
+    }
+
+    // The precommits that finalize the finalized block.
+    pub fn finalizing_precommits(self, out: &mut [u8]) -> Written
+        ensures { λ r. ⌜ _≡_ {A = Lent} (record { answer = r; bytes = now (out .exit) }) (finalizing-precommits self (now (out .entry))) ⌝ }
+    {
+        if !self.is_round() {
+            return Written::Refused(9);
+        }
+        let answers = self.answers;
+        let finalized = answers.finalized;
+        let Found::At(block) = finalized else {
+            return Written::Refused(15);
+        };
+        self.listed(Wanted::Finalizing(block), out)
     }
 }
