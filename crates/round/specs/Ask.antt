@@ -1,5 +1,5 @@
 -- The calls that only read a round. Document 01, "Refusal numbers": 9 first where a state is taken, also where it is only read.
-use mathlib.Core.Bool.{Bool, true, false, cond}
+use mathlib.Core.Bool.{cond}
 use mathlib.Core.List.{List}
 use Prim.Native.Nat.{ℕ, _*_}
 use Rattle.loops.specs.Listing.{front, keep}
