@@ -23,6 +23,7 @@ use Rattle.graph_rows.specs.declared.Row.{Row}
 use Rattle.graph_rows.specs.Rows.{words-of, rows-of}
 use Rattle.vote_graph.specs.Shape.{columns, is-graph}
 use Rattle.vote_graph.proofs.Shapes.{Kept, is-graph-means}
+use Rattle.vote_graph.proofs.Standings.{gate-falls}
 use Rattle.tracker.specs.declared.Pair.{Pair}
 use Rattle.vote_shape.specs.Voted.{voted}
 use Rattle.vote_shape_laws.specs.Recorded.{Wide, Beside, Recorded}
@@ -165,6 +166,15 @@ module _ (r : Round) where
           stored = prevote-in;
           room = λ j h l. written-room (r .votes) (sized-says (passed .2) .wide .times-size) (r .history .entries) (r .history .count) (recorded .history) j h l;
         }
+
+    pub parents-fall : Falls (r .table .parents)
+    parents-fall = gate-falls (r .graph) (r .table) (true-T _ (passed .0))
+
+    pub few-voters : r .context .voters .count ≤ 64
+    few-voters = good-means (r .context .voters) (true-T _ (passed .1)) .few
+
+    pub few-votes : r .history .count ≤ 256
+    few-votes = recorded .history .fits
 
 -- columns as they are lent, with the words of the rows beside
 abbrev pub lent : Round → List (List ℕ) → Columns

@@ -3,11 +3,15 @@
 ghost use mathlib.Core.Path.{_≡_};
 ghost use lib.Dec.{T};
 ghost use lib.ListN.{length};
+ghost use Prim.Native.Nat.{_≤_};
+ghost use Rattle.loops.specs.Listing.{front};
+ghost use Rattle.listing.specs.Written.{Lent};
 ghost use Rattle.nodes.specs.Nodes.{Falls};
 ghost use Rattle.vote_shape.specs.Voted.{voted};
 ghost use Rattle.vote_shape_laws.specs.Recorded.{Wide};
 ghost use Rattle.context.specs.declared.Phase.the-variants.{Prevote, Precommit};
 ghost use Rattle.round.specs.Shape.{index-fits, shaped};
+ghost use Rattle.round.specs.Ask.{records, listed, votes-of, historical-votes, finalizing-precommits, primary-of, heard-in, prevote-participation, precommit-participation, primary-voter, state, voters, index-number, number, threshold, prevoted-index, precommitted-index, completable, estimate, finalized, base};
 ghost use Rattle.round.specs.Calls.{no-votes, no-answers, opened, nobody, no-blocks, new, add-block, imported, import-vote, sought, with-sought, precommit-ghost, marked, set-index, block-of};
 use answers::Answers;
 use answers::Heard;
@@ -18,10 +22,14 @@ use context::Context;
 use context::Phase;
 use importing::Standing;
 use judging::ImportResult;
+use listing::Wanted;
+use listing::Written;
 use nodes::Found;
 use tracker::Pair;
 use tracker::Votes;
 use vote_graph::VoteGraph;
+use voter_info::VoterInfo;
+use voter_set::Nth;
 use voter_set::VoterSet;
 
 // How many votes had been seen when this desk voted itself.
@@ -82,6 +90,49 @@ pub enum Told {
 pub struct Asked {
     pub answer: Told,
     pub round: Round,
+}
+
+// A number that may be absent.
+pub enum Number {
+    Is(u64),
+    Nothing,
+    Refused(u8),
+}
+
+pub enum Whether {
+    Yes,
+    No,
+    Refused(u8),
+}
+
+// The weight heard in a phase, and how many voters.
+pub enum Participation {
+    Heard(u64, u32),
+    Refused(u8),
+}
+
+pub enum Primary {
+    Voter(u32, VoterInfo),
+    Nothing,
+    Refused(u8),
+}
+
+// `State` of round.rs.
+pub struct State {
+    pub prevote: Told,
+    pub finalized: Told,
+    pub estimate: Told,
+    pub completable: bool,
+}
+
+pub enum Answered {
+    Is(State),
+    Refused(u8),
+}
+
+pub struct Voters {
+    pub answer: Done,
+    pub voters: VoterSet,
 }
 
 fn no_answers() -> Answers
@@ -212,6 +263,62 @@ fn block_of<'a>(ids: &'a [u32; 256], numbers: &'a [u32; 256], found: Found) -> T
         }
         Found::Nothing => Told::Nothing,
     }
+}
+
+fn index_number(index: Index) -> Number
+    ensures { λ r. ⌜ r ≡ index-number index ⌝ }
+{
+    match index {
+        Index::At(seen) => Number::Is(seen),
+        Index::Nothing => Number::Nothing,
+    }
+}
+
+fn primary_of(nth: Nth) -> Primary
+    ensures { λ r. ⌜ r ≡ primary-of nth ⌝ }
+{
+    match nth {
+        Nth::Place(id, info) => Primary::Voter(id, info),
+        Nth::Beyond => Primary::Nothing,
+    }
+}
+
+// Voters heard in a phase: those of the base's row, under which every vote is.
+fn heard_in(graph: VoteGraph, phase: Phase) -> u32
+    ensures { λ r. ⌜ r ≡ heard-in graph phase ⌝ }
+{
+    let rows = graph.rows;
+    let row = rows[climbs::wide(graph.base)];
+    let bits = row.bits;
+    context::weighing::heard(bits, phase)
+}
+
+// Records of recorded votes from the start of what is lent: those of a list of entries.
+fn records(
+    entries: [u8; 256],
+    count: usize,
+    voters: VoterSet,
+    table: BlockTable,
+    votes: Votes,
+    out: &mut [u8],
+) -> Written
+    requires { ⌜ count ≤ 256 ⌝ }
+    ensures { λ r. ⌜ _≡_ {A = Lent} (record { answer = r; bytes = now (out .exit) }) (records (front count entries) voters table votes (now (out .entry))) ⌝ }
+{
+    listing::write(
+        &entries,
+        count,
+        &votes.times,
+        &votes.places,
+        &votes.signatures,
+        &votes.targets,
+        &votes.numbers,
+        &votes.seconds,
+        &voters.ids,
+        &table.ids,
+        &table.numbers,
+        out,
+    )
 }
 
 fn marked(history: History, phase: Phase) -> History
@@ -586,5 +693,241 @@ impl Round {
             answer: Done::Yes,
             round: self,
         }
+    }
+
+    // The calls from here on only read.
+    pub fn number(self) -> Number
+        ensures { λ r. ⌜ r ≡ number self ⌝ }
+    {
+        if !self.is_round() {
+            return Number::Refused(9);
+        }
+        Number::Is(self.number)
+    }
+
+    pub fn threshold(self) -> Number
+        ensures { λ r. ⌜ r ≡ threshold self ⌝ }
+    {
+        if !self.is_round() {
+            return Number::Refused(9);
+        }
+        let context = self.context;
+        let voters = context.voters;
+        Number::Is(voters.threshold)
+    }
+
+    pub fn prevoted_index(self) -> Number
+        ensures { λ r. ⌜ r ≡ prevoted-index self ⌝ }
+    {
+        if !self.is_round() {
+            return Number::Refused(9);
+        }
+        let history = self.history;
+        let prevoted = history.prevoted;
+        index_number(prevoted)
+    }
+
+    pub fn precommitted_index(self) -> Number
+        ensures { λ r. ⌜ r ≡ precommitted-index self ⌝ }
+    {
+        if !self.is_round() {
+            return Number::Refused(9);
+        }
+        let history = self.history;
+        let precommitted = history.precommitted;
+        index_number(precommitted)
+    }
+
+    pub fn completable(self) -> Whether
+        ensures { λ r. ⌜ r ≡ completable self ⌝ }
+    {
+        if !self.is_round() {
+            return Whether::Refused(9);
+        }
+        let answers = self.answers;
+        if answers.completable {
+            return Whether::Yes;
+        }
+        Whether::No
+    }
+
+    pub fn estimate(self) -> Told
+        ensures { λ r. ⌜ r ≡ estimate self ⌝ }
+    {
+        if !self.is_round() {
+            return Told::Refused(9);
+        }
+        let table = self.table;
+        let answers = self.answers;
+        let found = answers.estimate;
+        block_of(&table.ids, &table.numbers, found)
+    }
+
+    pub fn finalized(self) -> Told
+        ensures { λ r. ⌜ r ≡ finalized self ⌝ }
+    {
+        if !self.is_round() {
+            return Told::Refused(9);
+        }
+        let table = self.table;
+        let answers = self.answers;
+        let found = answers.finalized;
+        block_of(&table.ids, &table.numbers, found)
+    }
+
+    pub fn base(self) -> Told
+        ensures { λ r. ⌜ r ≡ base self ⌝ }
+    {
+        if !self.is_round() {
+            return Told::Refused(9);
+        }
+        let table = self.table;
+        let graph = self.graph;
+        block_of(&table.ids, &table.numbers, Found::At(graph.base))
+    }
+
+    pub fn prevote_participation(self) -> Participation
+        ensures { λ r. ⌜ r ≡ prevote-participation self ⌝ }
+    {
+        if !self.is_round() {
+            return Participation::Refused(9);
+        }
+        let graph = self.graph;
+        let count = heard_in(graph, Phase::Prevote);
+        let heard = self.heard;
+        Participation::Heard(heard.prevote, count)
+    }
+
+    pub fn precommit_participation(self) -> Participation
+        ensures { λ r. ⌜ r ≡ precommit-participation self ⌝ }
+    {
+        if !self.is_round() {
+            return Participation::Refused(9);
+        }
+        let graph = self.graph;
+        let count = heard_in(graph, Phase::Precommit);
+        let heard = self.heard;
+        Participation::Heard(heard.precommit, count)
+    }
+
+    pub fn primary_voter(self) -> Primary
+        ensures { λ r. ⌜ r ≡ primary-voter self ⌝ }
+    {
+        if !self.is_round() {
+            return Primary::Refused(9);
+        }
+        let context = self.context;
+        let voters = context.voters;
+        let nth = voters.nth_mod(self.number as usize);
+        primary_of(nth)
+    }
+
+    pub fn state(self) -> Answered
+        ensures { λ r. ⌜ r ≡ state self ⌝ }
+    {
+        if !self.is_round() {
+            return Answered::Refused(9);
+        }
+        let table = self.table;
+        let answers = self.answers;
+        let found = answers.prevote;
+        let prevote = block_of(&table.ids, &table.numbers, found);
+        let found = answers.finalized;
+        let finalized = block_of(&table.ids, &table.numbers, found);
+        let found = answers.estimate;
+        let estimate = block_of(&table.ids, &table.numbers, found);
+        let told = State {
+            prevote,
+            finalized,
+            estimate,
+            completable: answers.completable,
+        };
+        Answered::Is(told)
+    }
+
+    pub fn voters(self) -> Voters
+        ensures { λ r. ⌜ r ≡ voters self ⌝ }
+    {
+        if !self.is_round() {
+            return Voters {
+                answer: Done::Refused(9),
+                voters: nobody(),
+            };
+        }
+        let context = self.context;
+        let voters = context.voters;
+        Voters {
+            answer: Done::Yes,
+            voters,
+        }
+    }
+
+    // The wanted votes of a round that keeps the shape rules, by rising voter.
+    fn listed(self, wanted: Wanted, out: &mut [u8]) -> Written
+        requires { ⌜ T (shaped self) ⌝ }
+        ensures { λ r. ⌜ _≡_ {A = Lent} (record { answer = r; bytes = now (out .exit) }) (listed wanted self (now (out .entry))) ⌝ }
+    {
+        let context = self.context;
+        let voters = context.voters;
+        let table = self.table;
+        let votes = self.votes;
+        let list = listing::entries_of(
+            &votes.times,
+            &votes.places,
+            &table.parents,
+            voters.count,
+            wanted,
+        );
+        let entries = list.places;
+        records(entries, list.count, voters, table, votes, out)
+    }
+
+    pub fn prevotes(self, out: &mut [u8]) -> Written
+        ensures { λ r. ⌜ _≡_ {A = Lent} (record { answer = r; bytes = now (out .exit) }) (votes-of Prevote self (now (out .entry))) ⌝ }
+    {
+        if !self.is_round() {
+            return Written::Refused(9);
+        }
+        self.listed(Wanted::Of(Phase::Prevote), out)
+    }
+
+    pub fn precommits(self, out: &mut [u8]) -> Written
+        ensures { λ r. ⌜ _≡_ {A = Lent} (record { answer = r; bytes = now (out .exit) }) (votes-of Precommit self (now (out .entry))) ⌝ }
+    {
+        if !self.is_round() {
+            return Written::Refused(9);
+        }
+        self.listed(Wanted::Of(Phase::Precommit), out)
+    }
+
+    // Every recorded vote in arrival order.
+    pub fn historical_votes(self, out: &mut [u8]) -> Written
+        ensures { λ r. ⌜ _≡_ {A = Lent} (record { answer = r; bytes = now (out .exit) }) (historical-votes self (now (out .entry))) ⌝ }
+    {
+        if !self.is_round() {
+            return Written::Refused(9);
+        }
+        let context = self.context;
+        let voters = context.voters;
+        let table = self.table;
+        let votes = self.votes;
+        let history = self.history;
+        let entries = history.entries;
+        records(entries, history.count, voters, table, votes, out)
+    }
+
+    // The precommits that finalize the finalized block.
+    pub fn finalizing_precommits(self, out: &mut [u8]) -> Written
+        ensures { λ r. ⌜ _≡_ {A = Lent} (record { answer = r; bytes = now (out .exit) }) (finalizing-precommits self (now (out .entry))) ⌝ }
+    {
+        if !self.is_round() {
+            return Written::Refused(9);
+        }
+        let answers = self.answers;
+        let finalized = answers.finalized;
+        let Found::At(block) = finalized else {
+            return Written::Refused(15);
+        };
+        self.listed(Wanted::Finalizing(block), out)
     }
 }
