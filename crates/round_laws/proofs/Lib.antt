@@ -1,2 +1,3 @@
 pub mod Shaped
 pub mod Keeps
+pub mod Refusals
