@@ -1,6 +1,6 @@
 -- Every call on a round that keeps the shape gives a round that keeps it.
 use mathlib.Core.Bool.{Bool, true, false, cond}
-use mathlib.Core.Path.{_≡_, refl, sym, ap, subst, _∙_}
+use mathlib.Core.Path.{_≡_, refl, sym, subst}
 use Prim.Native.Nat.{ℕ, _≤_}
 use native.Mathlib.Omega.{arith}
 use lib.Dec.{T, leb}
@@ -30,15 +30,14 @@ use Rattle.held_laws.proofs.Opens.{opened-kept}
 use Rattle.held_laws.proofs.Keeps.{import-keeps}
 use Rattle.held_laws.proofs.Adds.{adding-keeps, sought-keeps}
 use Rattle.round.specs.declared.Round.{Round}
-use Rattle.round.specs.declared.Done.{Done}
 use Rattle.round.specs.declared.Done.the-variants as done
 use Rattle.round.specs.declared.Kept as round
 use Rattle.round.specs.declared.Grown.{Grown}
 use Rattle.round.specs.declared.Imported.{Imported}
 use Rattle.round.specs.declared.Asked.{Asked}
-use Rattle.round.specs.Shape.{frame, held, index-fits, shaped}
+use Rattle.round.specs.Shape.{frame, held, shaped}
 use Rattle.round.specs.Calls.{opened, not-opened, new, with-table, add-block, with-held, imported, import-vote, sought, with-sought, precommit-ghost, marked, with-history, set-index}
-use Rattle.round_laws.specs.Fits.{Fits, Marked}
+use Rattle.round_laws.specs.Fits.{Fits}
 use Rattle.round_laws.proofs.Shaped.{shaped-kept, shaped-marked, kept-shaped}
 
 -- where the test passes

@@ -1,9 +1,8 @@
 -- A refusal hands the round back equal, and every call refuses a round that breaks the shape with 9.
 use mathlib.Core.Bool.{Bool, true, false, cond}
-use mathlib.Core.Path.{_≡_, refl, sym, ap, _∙_}
+use mathlib.Core.Path.{_≡_, refl, ap, _∙_}
 use Prim.Native.Nat.{ℕ}
 use native.Mathlib.Omega.{arith}
-use lib.Dec.{T}
 use Rattle.loops.proofs.Tests.{T-true}
 use Rattle.blocks.specs.declared.Answer.the-variants as answer
 use Rattle.blocks.specs.declared.BlockTable.{BlockTable}
@@ -15,7 +14,7 @@ use Rattle.nodes.specs.declared.Found.the-variants as found
 use Rattle.graph_rows.proofs.Copies.{rows-words}
 use Rattle.tracker.specs.declared.Pair.{Pair}
 use Rattle.judging.specs.declared.ImportResult.the-variants as result
-use Rattle.importing.specs.Import.{Held, import}
+use Rattle.importing.specs.Import.{Held}
 use Rattle.held_laws.specs.Kept.{Untaken}
 use Rattle.held_laws.proofs.Keeps.{import-refused}
 use Rattle.round.specs.declared.Round.{Round}
@@ -26,7 +25,7 @@ use Rattle.round.specs.declared.Grown.{Grown}
 use Rattle.round.specs.declared.Imported.{Imported}
 use Rattle.round.specs.declared.Asked.{Asked}
 use Rattle.round.specs.Shape.{frame, held, shaped}
-use Rattle.round.specs.Calls.{with-table, grown, add-block, with-held, imported, import-vote, sought, with-sought, precommit-ghost, marked, with-history, set-index}
+use Rattle.round.specs.Calls.{with-table, grown, add-block, with-held, imported, import-vote, sought, with-sought, precommit-ghost, set-index}
 use Rattle.round.proofs.Steps.{graph-kept}
 
 -- either way of a test

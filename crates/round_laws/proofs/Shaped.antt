@@ -1,6 +1,4 @@
 -- The shape test of a round passes where the facts of its shape hold, and there alone.
-use mathlib.Core.Path.{_≡_}
-use Prim.Native.Nat.{ℕ}
 use lib.Dec.{T, eqb, eqb→eq}
 use lib.ListN.{length}
 use Rattle.loops.proofs.Tests.{T-true, true-T, both, left-of, right-of}
