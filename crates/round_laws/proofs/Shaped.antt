@@ -54,6 +54,19 @@ module _ (r : Round) where
       (left-of (weighed (r .context .voters .weights) (row (columns (r .graph) .rows) (r .graph .base)) (r .heard)) _ d)
       (left-of (all-stored (r .table .parents) (r .table .count) (r .graph .base) (r .answers)) _ e)
 
+  pub kept-shaped : Kept (frame r) (held r) → Marked r → T (shaped r)
+  unfolding shaped tells-votes
+  kept-shaped k m =
+      let tests = kept-tested (frame r) (held r) k in
+      both (is-graph (r .graph) (r .table)) _ (means-is-graph (r .graph) (r .table) (shaped-tabled (r .table) (k .table)) (k .sound) (k .clear))
+      (both (good (r .context .voters)) _ (T-true (means-good (r .context .voters) (k .good)))
+      (both (sized (held r)) _
+      (T-true (says-sized r (record { wide = k .wide; entries-size = kept-entries (frame r) (held r) k; words = k .recorded .equivocators .0 })))
+      (both (tells-votes (frame r) (held r)) _ (T-true (tests .0))
+      (both (weighed (r .context .voters .weights) (row (columns (r .graph) .rows) (r .graph .base)) (r .heard)) _ (tests .1)
+      (both (all-stored (r .table .parents) (r .table .count) (r .graph .base) (r .answers)) _ (tests .2)
+      (both (index-fits (r .history .prevoted)) _ (m .prevoted) (m .precommitted)))))))
+
   pub shaped-marked : T (shaped r) → Marked r
   unfolding shaped
   shaped-marked t =
@@ -67,16 +80,3 @@ module _ (r : Round) where
         prevoted = left-of (index-fits (r .history .prevoted)) _ f;
         precommitted = right-of (index-fits (r .history .prevoted)) _ f;
       }
-
-  pub kept-shaped : Kept (frame r) (held r) → Marked r → T (shaped r)
-  unfolding shaped tells-votes
-  kept-shaped k m =
-      let tests = kept-tested (frame r) (held r) k in
-      both (is-graph (r .graph) (r .table)) _ (means-is-graph (r .graph) (r .table) (shaped-tabled (r .table) (k .table)) (k .sound) (k .clear))
-      (both (good (r .context .voters)) _ (T-true (means-good (r .context .voters) (k .good)))
-      (both (sized (held r)) _
-      (T-true (says-sized r (record { wide = k .wide; entries-size = kept-entries (frame r) (held r) k; words = k .recorded .equivocators .0 })))
-      (both (tells-votes (frame r) (held r)) _ (T-true (tests .0))
-      (both (weighed (r .context .voters .weights) (row (columns (r .graph) .rows) (r .graph .base)) (r .heard)) _ (tests .1)
-      (both (all-stored (r .table .parents) (r .table .count) (r .graph .base) (r .answers)) _ (tests .2)
-      (both (index-fits (r .history .prevoted)) _ (m .prevoted) (m .precommitted)))))))
