@@ -1,6 +1,5 @@
 -- The shape test of a round passes where the facts of its shape hold, and there alone.
-use lib.Dec.{T, eqb, eqb→eq}
-use lib.ListN.{length}
+use lib.Dec.{T}
 use Rattle.loops.proofs.Tests.{T-true, true-T, both, left-of, right-of}
 use Rattle.voter_set.specs.Good.{good}
 use Rattle.voter_laws.proofs.Goods.{good-means, means-good}
@@ -13,32 +12,10 @@ use Rattle.held_laws.specs.Kept.{Kept}
 use Rattle.held_laws.proofs.Tested.{tested-kept, kept-tested, kept-entries}
 use Rattle.round.specs.declared.Round.{Round}
 use Rattle.round.specs.Shape.{frame, held, sized, index-fits, tells-votes, shaped}
-use Rattle.round.proofs.Steps.{Sizes, says-sized, graph-kept}
+use Rattle.round.proofs.Steps.{says-sized, sized-says, graph-kept}
 use Rattle.round_laws.specs.Fits.{Fits, Marked}
 
 module _ (r : Round) where
-  sizes-of : T (sized (held r)) → Sizes r
-  unfolding sized
-  sizes-of t =
-      let a = right-of (eqb (length (r .votes .times)) 128) _ t in
-      let b = right-of (eqb (length (r .votes .places)) 128) _ a in
-      let c = right-of (eqb (length (r .votes .signatures)) 128) _ b in
-      let d = right-of (eqb (length (r .votes .targets)) 128) _ c in
-      let e = right-of (eqb (length (r .votes .numbers)) 128) _ d in
-      let f = right-of (eqb (length (r .votes .seconds)) 128) _ e in
-      record {
-        wide = record {
-          times-size = eqb→eq _ _ (left-of (eqb (length (r .votes .times)) 128) _ t);
-          places-size = eqb→eq _ _ (left-of (eqb (length (r .votes .places)) 128) _ a);
-          signatures-size = eqb→eq _ _ (left-of (eqb (length (r .votes .signatures)) 128) _ b);
-          targets-size = eqb→eq _ _ (left-of (eqb (length (r .votes .targets)) 128) _ c);
-          numbers-size = eqb→eq _ _ (left-of (eqb (length (r .votes .numbers)) 128) _ d);
-          seconds-size = eqb→eq _ _ (left-of (eqb (length (r .votes .seconds)) 128) _ e);
-        };
-        entries-size = eqb→eq _ _ (left-of (eqb (length (r .history .entries)) 256) _ f);
-        words = eqb→eq _ _ (right-of (eqb (length (r .history .entries)) 256) _ f);
-      }
-
   pub shaped-kept : Fits r → T (shaped r) → Kept (frame r) (held r)
   unfolding shaped tells-votes
   shaped-kept fits t =
@@ -48,7 +25,7 @@ module _ (r : Round) where
       let d = right-of (tells-votes (frame r) (held r)) _ c in
       let e = right-of (weighed (r .context .voters .weights) (row (columns (r .graph) .rows) (r .graph .base)) (r .heard)) _ d in
       let g = graph-kept r t in
-      let s = sizes-of (left-of (sized (held r)) _ b) in
+      let s = sized-says r (left-of (sized (held r)) _ b) in
       tested-kept (frame r) (held r) (good-means (r .context .voters) (true-T _ (left-of (good (r .context .voters)) _ a))) fits (g .table) (g .sound) (g .clear) (s .wide)
       (s .words) (s .entries-size) (true-T _ (left-of (tells-votes (frame r) (held r)) _ c))
       (left-of (weighed (r .context .voters .weights) (row (columns (r .graph) .rows) (r .graph .base)) (r .heard)) _ d)
