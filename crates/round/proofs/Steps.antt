@@ -61,7 +61,7 @@ module _ (r : Round) where
         eq-eqb _ 2 (s .words),
       )
 
-  sized-says : T (sized (held r)) → Sizes r
+  pub sized-says : T (sized (held r)) → Sizes r
   unfolding sized
   sized-says t =
       let a = right-of (eqb (length (r .votes .times)) 128) _ t in

@@ -1,0 +1,4 @@
+pub mod Shaped
+pub mod Keeps
+pub mod Refusals
+pub mod Lasting

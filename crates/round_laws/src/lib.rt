@@ -1,0 +1,1 @@
+// No code: what calls keep of a round, and which rounds calls reach.
