@@ -1,0 +1,48 @@
+use mathlib.Core.Path.{_≡_, sym, _∙_}
+use borrow.Author.Needs.{needs}
+use Rattle.two_views.proofs.Turns.{apart-silent, apart-unheard, apart-both}
+use borrow.Author.Needs.{needs}
+use Rattle.two_views.proofs.differs.Statement.{statement}
+use Rattle.two_views.proofs.differs.Tie as tie
+use Rattle.two_views.proofs.differs.Reads as reads
+use Rattle.two_views.proofs.differs.Lts as lts
+
+-- src/lib.rt:27:8
+element-copy-out-if1 : tie.Need-element-copy-out-if1
+element-copy-out-if1 c = search needs
+
+-- src/lib.rt:28:9
+returns : tie.Need-returns
+returns c = sym (apart-silent (c .before .before .args .times .now) (c .before .before .args .places .now) (c .before .before .args .others .now) (c .before .before .args .theirs .now) (c .before .before .args .at) (c .if1 .taken))
+
+-- src/lib.rt:30:8
+element-copy-out-if2 : tie.Need-element-copy-out-if2
+element-copy-out-if2 c = search needs
+
+-- src/lib.rt:31:9
+returns-2 : tie.Need-returns-2
+returns-2 c = sym (apart-unheard (c .before .before .before .before .args .times .now) (c .before .before .before .before .args .places .now) (c .before .before .before .before .args .others .now) (c .before .before .before .before .args .theirs .now) (c .before .before .before .before .args .at) (c .before .before .if1 .left) (c .if2 .taken))
+
+-- src/lib.rt:33:5
+element-copy-out-result : tie.Need-element-copy-out-result
+element-copy-out-result c = search needs
+
+-- src/lib.rt:33:19
+element-copy-out-result-2 : tie.Need-element-copy-out-result-2
+element-copy-out-result-2 c = search needs
+
+-- src/lib.rt:17:1
+returns-3 : tie.Need-returns-3
+returns-3 c = sym (apart-both (c .before .before .before .before .before .before .args .times .now) (c .before .before .before .before .before .before .args .places .now) (c .before .before .before .before .before .before .args .others .now) (c .before .before .before .before .before .before .args .theirs .now) (c .before .before .before .before .before .before .args .at) (c .before .before .before .before .if1 .left) (c .before .before .if2 .left))
+
+pub differs-spec : {M : Type 1} → statement M
+differs-spec =
+    tie.close
+    (tie.spec
+    element-copy-out-if1
+    returns
+    element-copy-out-if2
+    returns-2
+    element-copy-out-result
+    element-copy-out-result-2
+    returns-3)

@@ -1,0 +1,68 @@
+-- Document 01, "Two views", and "Refusal numbers" 9 and 16: for two rounds of one round number, voters, base and block table,
+-- the sum of weights of voters whose first recorded precommit targets differ in id. The tables are one and its ids are distinct,
+-- so that targets differ in id where they differ in place.
+use mathlib.Core.Bool.{Bool, cond, _&&_}
+use mathlib.Core.List.{List}
+use Prim.Native.Nat.{ℕ, _+_, _*_, min}
+use lib.Dec.{eqb}
+use lib.ListN.{length, getD}
+use Rattle.loops.specs.All.{all}
+use Rattle.loops.specs.Sum.{weigh}
+use Rattle.weights.specs.Weights.{most}
+use Rattle.grandpa.specs.Vote.{Vote, Voters}
+use Rattle.grandpa.specs.Views.{differ, two-views}
+use Rattle.voter_set.specs.declared.VoterSet.{VoterSet}
+use Rattle.blocks.specs.declared.BlockTable.{BlockTable}
+use Rattle.context.specs.declared.Phase.the-variants.{Precommit}
+use Rattle.context.specs.Votes.{bit}
+use Rattle.nodes.specs.Nodes.{col}
+use Rattle.tracker.specs.Recorded.{cast-of, cast}
+use Rattle.round.specs.declared.Round.{Round}
+use Rattle.round.specs.Shape.{shaped}
+use Rattle.two_views.specs.declared.Views.{Views}
+use Rattle.two_views.specs.declared.Views.the-variants.{Weight, Refused}
+
+-- the first targets at an index differ
+unfoldable pub apart : List ℕ → List ℕ → List ℕ → List ℕ → ℕ → Bool
+apart times places others theirs j = differ (cast-of (col times j) (col places j)) (cast-of (col others j) (col theirs j))
+
+-- the same in weight, over the precommits of so many voters; weights add with saturation
+unfoldable pub differing : List ℕ → List ℕ → List ℕ → List ℕ → List ℕ → ℕ → ℕ
+differing times places others theirs weights size =
+    min (weigh size (λ p. apart times places others theirs (2 * p + 1)) (λ p. getD weights p 0)) most
+
+-- two columns are one
+unfoldable pub same : List ℕ → List ℕ → Bool
+same xs ys = eqb (length xs) (length ys) && all (length xs) (λ k. eqb (getD xs k 0) (getD ys k 0))
+
+unfoldable pub same-voters : VoterSet → VoterSet → Bool
+same-voters a b =
+    eqb (a .count) (b .count)
+    && (eqb (a .threshold) (b .threshold)
+    && (eqb (a .total) (b .total) && (same (a .ids) (b .ids) && same (a .weights) (b .weights))))
+
+unfoldable pub same-table : BlockTable → BlockTable → Bool
+same-table a b =
+    eqb (a .count) (b .count)
+    && (same (a .ids) (b .ids) && (same (a .numbers) (b .numbers) && same (a .parents) (b .parents)))
+
+-- one round number, base, voters and table
+unfoldable pub agree : Round → Round → Bool
+agree a b =
+    eqb (a .number) (b .number)
+    && (eqb (a .graph .base) (b .graph .base)
+    && (same-voters (a .context .voters) (b .context .voters) && same-table (a .table) (b .table)))
+
+-- a round as the definitions speak of it
+abbrev pub voters : Round → Voters
+voters r = record { size = r .context .voters .count; weight = λ p. getD (r .context .voters .weights) p 0 }
+
+abbrev pub precommits : Round → ℕ → Vote
+precommits r p = cast (r .votes) (bit Precommit p)
+
+-- the call
+unfoldable pub views : Round → Round → Views
+views a b =
+    cond (shaped a)
+    (cond (shaped b) (cond (agree a b) (Weight (two-views (voters a) (precommits a) (precommits b))) (Refused 16)) (Refused 9))
+    (Refused 9)

@@ -1,0 +1,184 @@
+// Two views of one round: the weight of the voters whose first recorded precommits differ between them.
+ghost use mathlib.Core.Path.{_≡_};
+ghost use Prim.Native.Nat.{_≤_, _<_};
+ghost use Rattle.two_views.specs.Views.{apart, differing, same, same-voters, same-table, agree, views};
+use blocks::BlockTable;
+use round::Round;
+use voter_set::VoterSet;
+use weights::VoteWeight;
+
+// The weight, or the number of the refusal.
+pub enum Views {
+    Weight(u64),
+    Refused(u8),
+}
+
+// Whether the first targets at an index differ. A voter silent in either view adds nothing.
+fn differs<'a>(
+    times: &'a [u8; 128],
+    places: &'a [u8; 128],
+    others: &'a [u8; 128],
+    theirs: &'a [u8; 128],
+    at: usize,
+) -> bool
+    requires { ⌜ at < 128 ⌝ }
+    ensures { λ r. ⌜ r ≡ apart (now (times .entry)) (now (places .entry)) (now (others .entry)) (now (theirs .entry)) at ⌝ }
+{
+    if times[at] == 0 {
+        return false;
+    }
+    if others[at] == 0 {
+        return false;
+    }
+    places[at] != theirs[at]
+}
+
+// The weight of the voters whose first precommits differ, on lent columns; `others` and `theirs` are the times and places of the other
+// view. A voter's precommits stand at twice its place and one.
+pub fn differing<'a>(
+    times: &'a [u8; 128],
+    places: &'a [u8; 128],
+    others: &'a [u8; 128],
+    theirs: &'a [u8; 128],
+    weights: &'a [u64; 64],
+    size: usize,
+) -> u64
+    requires { ⌜ size ≤ 64 ⌝ }
+    ensures { λ r. ⌜ r ≡ differing (now (times .entry)) (now (places .entry)) (now (others .entry)) (now (theirs .entry)) (now (weights .entry)) size ⌝ }
+{
+    let mut sum = 0;
+    for voter in 0..size {
+        if !differs(times, places, others, theirs, 2 * voter + 1) {
+            continue;
+        }
+        let more = VoteWeight(sum).add(VoteWeight(weights[voter]));
+        sum = more.0;
+    }
+    sum
+}
+
+fn same_u8<'a>(xs: &'a [u8], ys: &'a [u8]) -> bool
+    ensures { λ r. ⌜ r ≡ same (now (xs .entry)) (now (ys .entry)) ⌝ }
+{
+    if xs.len() != ys.len() {
+        return false;
+    }
+    for k in 0..xs.len() {
+        if xs[k] != ys[k] {
+            return false;
+        }
+    }
+    true
+}
+
+fn same_u32<'a>(xs: &'a [u32], ys: &'a [u32]) -> bool
+    ensures { λ r. ⌜ r ≡ same (now (xs .entry)) (now (ys .entry)) ⌝ }
+{
+    if xs.len() != ys.len() {
+        return false;
+    }
+    for k in 0..xs.len() {
+        if xs[k] != ys[k] {
+            return false;
+        }
+    }
+    true
+}
+
+fn same_u64<'a>(xs: &'a [u64], ys: &'a [u64]) -> bool
+    ensures { λ r. ⌜ r ≡ same (now (xs .entry)) (now (ys .entry)) ⌝ }
+{
+    if xs.len() != ys.len() {
+        return false;
+    }
+    for k in 0..xs.len() {
+        if xs[k] != ys[k] {
+            return false;
+        }
+    }
+    true
+}
+
+fn same_voters(one: VoterSet, other: VoterSet) -> bool
+    ensures { λ r. ⌜ r ≡ same-voters one other ⌝ }
+{
+    if one.count != other.count {
+        return false;
+    }
+    if one.threshold != other.threshold {
+        return false;
+    }
+    if one.total != other.total {
+        return false;
+    }
+    if !same_u32(&one.ids, &other.ids) {
+        return false;
+    }
+    same_u64(&one.weights, &other.weights)
+}
+
+fn same_table(one: BlockTable, other: BlockTable) -> bool
+    ensures { λ r. ⌜ r ≡ same-table one other ⌝ }
+{
+    if one.count != other.count {
+        return false;
+    }
+    if !same_u32(&one.ids, &other.ids) {
+        return false;
+    }
+    if !same_u32(&one.numbers, &other.numbers) {
+        return false;
+    }
+    same_u8(&one.parents, &other.parents)
+}
+
+// Whether two views are of one round: number, base, voters and table.
+fn agree(one: Round, other: Round) -> bool
+    ensures { λ r. ⌜ r ≡ agree one other ⌝ }
+{
+    if one.number != other.number {
+        return false;
+    }
+    let graph = one.graph;
+    let other_graph = other.graph;
+    if graph.base != other_graph.base {
+        return false;
+    }
+    let context = one.context;
+    let other_context = other.context;
+    let voters = context.voters;
+    let other_voters = other_context.voters;
+    if !same_voters(voters, other_voters) {
+        return false;
+    }
+    let table = one.table;
+    let other_table = other.table;
+    same_table(table, other_table)
+}
+
+// The weight of the voters whose first precommits differ between two views of one round.
+pub fn two_views(one: Round, other: Round) -> Views
+    ensures { λ r. ⌜ r ≡ views one other ⌝ }
+{
+    if !one.is_round() {
+        return Views::Refused(9);
+    }
+    if !other.is_round() {
+        return Views::Refused(9);
+    }
+    if !agree(one, other) {
+        return Views::Refused(16);
+    }
+    let context = one.context;
+    let voters = context.voters;
+    let votes = one.votes;
+    let other_votes = other.votes;
+    Views::Weight(differing(
+        &votes.times,
+        &votes.places,
+        &other_votes.times,
+        &other_votes.places,
+        &voters.weights,
+        voters.count,
+    ))
+}
