@@ -1,2 +1,4 @@
 pub mod Turns
 pub mod Rounds
+pub mod Agreements
+pub mod Examples
