@@ -1,4 +1,5 @@
 pub mod Turns
 pub mod Rounds
 pub mod Agreements
+pub mod Named
 pub mod Examples
