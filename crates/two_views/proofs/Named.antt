@@ -1,5 +1,5 @@
 -- Targets that differ in place differ in id: the table is one, targets are in it, and its ids are distinct.
-use mathlib.Core.Bool.{Bool, not, _||_, _&&_}
+use mathlib.Core.Bool.{Bool, not, _||_}
 use mathlib.Core.List.{List}
 use mathlib.Core.Path.{_≡_, refl, sym, ap, subst, _∙_}
 use mathlib.Core.Logic.{_⊎_, inl, inr}
