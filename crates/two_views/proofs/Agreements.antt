@@ -1,14 +1,12 @@
 -- The comparison passes exactly where number, base, voters and table are one.
-use mathlib.Core.Bool.{true, _&&_}
 use mathlib.Core.List.{List}
-use mathlib.Core.Path.{_≡_, refl, subst, _∙_}
+use mathlib.Core.Path.{_≡_, refl, subst}
 use Prim.Native.Nat.{ℕ}
 use lib.Dec.{T, eqb, eqb→eq}
 use lib.ListN.{length, getD}
 use lib.Seq.{ext-getD}
 use borrow.Author.Tests.{eq-eqb}
-use Rattle.loops.specs.All.{all}
-use Rattle.loops.proofs.Tests.{T-true, true-T, both, left-of, right-of}
+use Rattle.loops.proofs.Tests.{T-true, both, left-of, right-of}
 use Rattle.loops.proofs.Alls.{all-at, all-intro}
 use Rattle.voter_set.specs.declared.VoterSet.{VoterSet}
 use Rattle.blocks.specs.declared.BlockTable.{BlockTable}

@@ -1,7 +1,7 @@
 -- Four voters of weights 5, 6, 7 and 8 at places 0 to 3: voter 0 precommitted for block 2 in both views, voter 1 for 2 in one and for 3 in
 -- the other, voter 2 is silent in the other, voter 3 equivocated in one view, first for 1, and precommitted for 1 in the other.
 -- Prevotes, which stand between, differ and add nothing.
-use mathlib.Core.Bool.{true, false}
+use mathlib.Core.Bool.{false}
 use mathlib.Core.List.{List, [], _∷_}
 use mathlib.Core.Path.{_≡_, refl}
 use Prim.Native.Nat.{ℕ}

@@ -1,7 +1,7 @@
 -- What the test of a round gives the call: the sum fits, and is the one of the definitions.
-use mathlib.Core.Bool.{Bool, true, cond}
-use mathlib.Core.Path.{_≡_, _∙_}
-use Prim.Native.Nat.{ℕ, _+_, _*_, _≤_}
+use mathlib.Core.Bool.{Bool}
+use mathlib.Core.Path.{_≡_}
+use Prim.Native.Nat.{ℕ, _≤_}
 use native.Mathlib.Omega.{arith}
 use lib.Dec.{T}
 use lib.ListN.{getD}
@@ -37,8 +37,8 @@ module _ (r : Round) (t : T (shaped r)) where
       )
 
   -- nothing saturates
-  pub differing-is : r .context .voters .total ≤ most → (o : Round)
-      → differing (r .votes .times) (r .votes .places) (o .votes .times) (o .votes .places) (r .context .voters .weights) (r .context .voters .count)
-      ≡ two-views (voters r) (precommits r) (precommits o)
+  pub differing-is : r .context .voters .total ≤ most → (o : Round) (x : ℕ)
+      → x ≡ differing (r .votes .times) (r .votes .places) (o .votes .times) (o .votes .places) (r .context .voters .weights) (r .context .voters .count)
+      → x ≡ two-views (voters r) (precommits r) (precommits o)
   unfolding differing apart cast
-  differing-is h o = omega (arith, weight-fits (λ p. differ (precommits r p) (precommits o p)))
+  differing-is h o x e = omega (arith, weight-fits (λ p. differ (precommits r p) (precommits o p)))

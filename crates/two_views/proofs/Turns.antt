@@ -1,19 +1,18 @@
 -- The ways through the code: one voter's targets, a turn of the sum, the comparison of two columns.
 use mathlib.Core.Bool.{Bool, true, false, cond, not}
 use mathlib.Core.List.{List}
-use mathlib.Core.Path.{_≡_, refl, sym, ap, _∙_}
+use mathlib.Core.Path.{_≡_, refl, ap, _∙_}
 use mathlib.Core.Logic.{_≢_}
-use Prim.Native.Nat.{ℕ, zero, suc, _+_, _*_, _≤_, _<_}
+use Prim.Native.Nat.{ℕ, zero, suc, _+_, _*_, _<_}
 use native.Mathlib.Omega.{arith}
 use lib.Dec.{eqb}
 use lib.ListN.{length, getD}
 use borrow.Author.Tests.{eq-eqb, ne-eqb}
 use Rattle.loops.specs.All.{all}
-use Rattle.loops.specs.Sum.{weigh}
 use Rattle.loops.proofs.Alls.{all-false}
 use Rattle.loops.proofs.Sums.{sum-none, sum-more}
-use Rattle.weights.specs.Weights.{most, plus}
-use Rattle.grandpa.specs.Vote.{Vote, silent, once, twice}
+use Rattle.weights.specs.Weights.{plus}
+use Rattle.grandpa.specs.Vote.{Vote}
 use Rattle.grandpa.specs.Views.{differ, differ-from}
 use Rattle.nodes.specs.Nodes.{col}
 use Rattle.tracker.specs.Recorded.{cast-of}

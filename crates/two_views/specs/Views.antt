@@ -9,7 +9,7 @@ use lib.ListN.{length, getD}
 use Rattle.loops.specs.All.{all}
 use Rattle.loops.specs.Sum.{weigh}
 use Rattle.weights.specs.Weights.{most}
-use Rattle.grandpa.specs.Vote.{Vote, Voters}
+use Rattle.grandpa.specs.Vote.{Vote, silent, once, twice, Voters}
 use Rattle.grandpa.specs.Views.{differ, two-views}
 use Rattle.voter_set.specs.declared.VoterSet.{VoterSet}
 use Rattle.blocks.specs.declared.BlockTable.{BlockTable}
@@ -59,6 +59,12 @@ voters r = record { size = r .context .voters .count; weight = λ p. getD (r .co
 
 abbrev pub precommits : Round → ℕ → Vote
 precommits r p = cast (r .votes) (bit Precommit p)
+
+-- a vote with its target by id
+abbrev pub by-id : List ℕ → Vote → Vote
+by-id ids silent = silent
+by-id ids (once x) = once (col ids x)
+by-id ids (twice x) = twice (col ids x)
 
 -- the call
 unfoldable pub views : Round → Round → Views

@@ -1,7 +1,6 @@
-use mathlib.Core.Path.{_≡_, sym, _∙_}
+use mathlib.Core.Path.{sym}
 use borrow.Author.Needs.{needs}
 use Rattle.two_views.proofs.Turns.{apart-silent, apart-unheard, apart-both}
-use borrow.Author.Needs.{needs}
 use Rattle.two_views.proofs.differs.Statement.{statement}
 use Rattle.two_views.proofs.differs.Tie as tie
 use Rattle.two_views.proofs.differs.Reads as reads

@@ -1,6 +1,5 @@
-use mathlib.Core.Path.{_≡_, refl, sym, ap, _∙_}
+use mathlib.Core.Path.{sym, _∙_}
 use Prim.Native.Nat.{_≤_}
-use native.Mathlib.Omega.{arith}
 use borrow.Author.Tests.{not-true, not-false}
 use Rattle.loops.proofs.Tests.{T-true}
 use Rattle.weights.specs.Weights.{most}
@@ -52,7 +51,7 @@ unfolding views
 returns-4 c =
     let s = sym (c .before .before .before .before .before .before .before .before .before .before .before .before .before .before .before .before .before .before .is-round .ensures) ∙ not-false _ (c .before .before .before .before .before .before .before .before .before .before .before .before .before .before .before .before .before .if1 .left) in
     let fits : c .before .before .before .before .before .before .before .before .before .before .before .before .before .before .before .before .before .before .before .args .one .context .voters .total ≤ most = search (needs, c .before .before .before .before .before .before .before .before .before .before .before .before .before .before .before .before .before .before .before .good .0 .1 .1 .1 .0) in
-    rw (s, sym (c .before .before .before .before .before .before .before .before .before .before .before .before .before .before .before .before .is-round2 .ensures) ∙ not-false _ (c .before .before .before .before .before .before .before .before .before .before .before .before .before .before .before .if2 .left), sym (c .before .before .before .before .before .before .before .before .before .before .before .before .before .before .agree .ensures) ∙ not-false _ (c .before .before .before .before .before .before .before .before .before .before .before .before .before .if3 .left), c .differing .ensures ∙ differing-is (c .before .before .before .before .before .before .before .before .before .before .before .before .before .before .before .before .before .before .before .args .one) (T-true s) fits (c .before .before .before .before .before .before .before .before .before .before .before .before .before .before .before .before .before .before .before .args .other))
+    rw (s, sym (c .before .before .before .before .before .before .before .before .before .before .before .before .before .before .before .before .is-round2 .ensures) ∙ not-false _ (c .before .before .before .before .before .before .before .before .before .before .before .before .before .before .before .if2 .left), sym (c .before .before .before .before .before .before .before .before .before .before .before .before .before .before .agree .ensures) ∙ not-false _ (c .before .before .before .before .before .before .before .before .before .before .before .before .before .if3 .left), differing-is (c .before .before .before .before .before .before .before .before .before .before .before .before .before .before .before .before .before .before .before .args .one) (T-true s) fits (c .before .before .before .before .before .before .before .before .before .before .before .before .before .before .before .before .before .before .before .args .other) _ (c .differing .ensures))
 
 pub two-views-spec : {M : Type 1} → statement M
 two-views-spec =

@@ -1,0 +1,106 @@
+-- Targets that differ in place differ in id: the table is one, targets are in it, and its ids are distinct.
+use mathlib.Core.Bool.{Bool, not, _||_}
+use mathlib.Core.List.{List}
+use mathlib.Core.Path.{_≡_, refl, sym, ap, subst, _∙_}
+use mathlib.Core.Logic.{_⊎_, inl, inr}
+use Prim.Native.Nat.{ℕ, zero, suc, _+_, _*_, _≤_, _<_}
+use native.Mathlib.Decide.{ℕ-discrete}
+use native.Mathlib.Omega.{arith}
+use lib.Dec.{T, eqb, leb, leb→le}
+use borrow.Author.Tests.{eq-eqb, ne-eqb}
+use Rattle.loops.proofs.Tests.{left-of, right-of, either}
+use Rattle.loops.proofs.Alls.{all-at}
+use Rattle.loops.proofs.Sums.{weigh-cong}
+use Rattle.grandpa.specs.Vote.{Vote, silent, once, twice}
+use Rattle.grandpa.specs.Views.{differ, differ-from, two-views}
+use Rattle.graph.specs.Shape.{Targets}
+use Rattle.blocks.specs.declared.BlockTable.{BlockTable}
+use Rattle.voter_set.specs.Good.{good}
+use Rattle.nodes.specs.Nodes.{col, flag}
+use Rattle.tracker.specs.Recorded.{cast-of, cast}
+use Rattle.vote_graph.specs.Shape.{is-graph}
+use Rattle.vote_shape.specs.Voted.{tidy, targets-used, noded, voted}
+use Rattle.round.specs.declared.Round.{Round}
+use Rattle.round.specs.Shape.{frame, held, sized, tells-votes, shaped}
+use Rattle.round.proofs.Steps.{graph-kept}
+use Rattle.two_views.specs.Views.{voters, precommits, by-id}
+use Rattle.two_views.specs.One.{One}
+use Rattle.two_views.proofs.Rounds.{voters-good}
+
+-- a target is used where the test of the targets passes
+target-at : (used : ℕ → Bool) (n b x : ℕ) → T (leb n 0 || used b) → Targets (cast-of n b) x → T (used x)
+target-at used zero b x h e = absurd e
+target-at used (suc zero) b x h e = go (either (leb 1 0) (used b) h)
+  where
+    go : T (leb 1 0) ⊎ T (used b) → T (used x)
+    go (inl l) = absurd (let q = leb→le 1 0 l in omega arith)
+    go (inr u) = subst (λ (y : ℕ). T (used y)) e u
+target-at used (suc (suc n)) b x h e = go (either (leb (suc (suc n)) 0) (used b) h)
+  where
+    go : T (leb (suc (suc n)) 0) ⊎ T (used b) → T (used x)
+    go (inl l) = absurd (let q = leb→le (suc (suc n)) 0 l in omega arith)
+    go (inr u) = subst (λ (y : ℕ). T (used y)) e u
+
+module _ (r : Round) (t : T (shaped r)) where
+  targets-tested : T (targets-used (r .graph .used) (r .votes .times) (r .votes .places))
+  unfolding shaped tells-votes voted noded
+  targets-tested =
+      let a = right-of (is-graph (r .graph) (r .table)) _ t in
+      let b = right-of (good (r .context .voters)) _ a in
+      let c = right-of (sized (held r)) _ b in
+      let d = left-of (tells-votes (frame r) (held r)) _ c in
+      let e = right-of (tidy (r .context .voters .count) (r .votes)) _ d in
+      let f = left-of (noded (r .graph .base) (r .graph .used) (r .votes .times) (r .votes .places)) _ e in
+      left-of (targets-used (r .graph .used) (r .votes .times) (r .votes .places)) _ (right-of (flag (r .graph .used) (r .graph .base)) _ f)
+
+  -- a recorded first target is in the table
+  pub target-tabled : (j : ℕ) → j < 128 → (x : ℕ) → Targets (cast (r .votes) j) x → x < r .table .count
+  unfolding targets-used cast
+  target-tabled j h x e =
+      graph-kept r t .sound .nodes .tabled x
+      (target-at (flag (r .graph .used)) (col (r .votes .times) j) (col (r .votes .places) j) x
+      (all-at (λ i. leb (col (r .votes .times) i) 0 || flag (r .graph .used) (col (r .votes .places) i)) 128 targets-tested j h) e)
+
+module _ (ids : List ℕ) (n : ℕ) (distinct : (s x : ℕ) → s < n → x < n → col ids s ≡ col ids x → s ≡ x) where
+  place-by : (s x : ℕ) → s < n → x < n → eqb s x ≡ eqb (col ids s) (col ids x)
+  place-by s x h l = go (ℕ-discrete s x)
+    where
+      go : Dec (s ≡ x) → eqb s x ≡ eqb (col ids s) (col ids x)
+      go (yes e) = eq-eqb s x e ∙ sym (eq-eqb (col ids s) (col ids x) (ap (col ids) e))
+      go (no e) = ne-eqb s x e ∙ sym (ne-eqb (col ids s) (col ids x) (λ q. e (distinct s x h l q)))
+
+  from-by : (s : ℕ) (y : Vote) → s < n → ((z : ℕ) → Targets y z → z < n) → differ-from s y ≡ differ-from (col ids s) (by-id ids y)
+  from-by s silent h g = refl
+  from-by s (once x) h g = ap not (place-by s x h (g x refl))
+  from-by s (twice x) h g = ap not (place-by s x h (g x refl))
+
+  pub differ-by : (v y : Vote) → ((z : ℕ) → Targets v z → z < n) → ((z : ℕ) → Targets y z → z < n)
+      → differ v y ≡ differ (by-id ids v) (by-id ids y)
+  differ-by silent y f g = refl
+  differ-by (once s) y f g = from-by s y (f s refl) g
+  differ-by (twice s) y f g = from-by s y (f s refl) g
+
+-- the weight is that of the voters whose first targets differ in id
+pub views-by-id : (a b : Round) → T (shaped a) → T (shaped b) → One a b
+    → two-views (voters a) (precommits a) (precommits b)
+    ≡ two-views (voters a) (λ p. by-id (a .table .ids) (precommits a p)) (λ p. by-id (b .table .ids) (precommits b p))
+views-by-id a b s t o =
+    subst (λ (y : BlockTable). two-views (voters a) (precommits a) (precommits b) ≡ two-views (voters a) (λ p. by-id (a .table .ids) (precommits a p)) (λ p. by-id (y .ids) (precommits b p)))
+    (o .table) here
+  where
+    few : a .context .voters .count ≤ 64
+    few = voters-good a s .few
+
+    apart : (x y : ℕ) → x < a .table .count → y < a .table .count → col (a .table .ids) x ≡ col (a .table .ids) y → x ≡ y
+    apart x y h k e =
+        graph-kept a s .table .distinct (col (a .table .ids) y) x y (record { inside = h; named = e }) (record { inside = k; named = refl })
+
+    inside : (j : ℕ) → j < 128 → (x : ℕ) → Targets (cast (b .votes) j) x → x < a .table .count
+    inside j h x e = subst (λ (y : BlockTable). x < y .count) (sym (o .table)) (target-tabled b t j h x e)
+
+    here : two-views (voters a) (precommits a) (precommits b)
+        ≡ two-views (voters a) (λ p. by-id (a .table .ids) (precommits a p)) (λ p. by-id (a .table .ids) (precommits b p))
+    here =
+        weigh-cong (a .context .voters .count) (voters a .weight) _ _
+        (λ p h. differ-by (a .table .ids) (a .table .count) apart (precommits a p) (precommits b p)
+        (target-tabled a s (2 * p + 1) (omega (arith, few))) (inside (2 * p + 1) (omega (arith, few))))
