@@ -11,12 +11,13 @@ use Rattle.grandpa.specs.Time as time
 use Rattle.blocks.specs.Add.{step}
 use Rattle.context.specs.declared.Phase.{Phase}
 use Rattle.context.specs.declared.Phase.the-variants.{Prevote, Precommit}
+use Rattle.context.specs.Votes.{bit}
 use Rattle.nodes.specs.Nodes.{col}
 use Rattle.tracker.specs.declared.Pair.{Pair}
 use Rattle.importing.specs.Import.{Frame, Held, import}
-use Rattle.held_laws.specs.Kept.{Kept}
 use Rattle.held_laws.specs.Reached as state
 use Rattle.held_laws.specs.Reached.{opened-held, Comes, with-table}
+use Rattle.held_laws.proofs.Onward.{comes-grown, comes-later}
 use Rattle.held_laws.proofs.Answered.{reached-meant, reached-stays}
 use Rattle.round.specs.declared.Round.{Round}
 use Rattle.round.specs.declared.Kept as round
@@ -28,6 +29,7 @@ use Rattle.round.specs.Calls as call
 use Rattle.round.specs.Calls.{opened, add-block, imported, import-vote, sought, precommit-ghost, set-index}
 use Rattle.round_laws.specs.Fits.{Fits}
 use Rattle.round_laws.specs.Later.{Later, here, voted, added, asked, marked, Reached, voters-of, blocks-of, votes-of, answers-of}
+use Rattle.round_laws.proofs.Shaped.{shaped-kept}
 use Rattle.round_laws.proofs.Keeps.{on-true, held-again, opening, opened-again, opened-shaped, new-opened, new-opens, import-shaped, add-shaped, ghost-shaped, index-shaped}
 
 -- nothing but the table and what is held has changed, by calls
@@ -105,6 +107,19 @@ module _ (r : Round) (fits : Fits r) where
 
   pub later-shaped : T (shaped r) → (s : Round) → Later r s → T (shaped s)
   later-shaped t s c = later-arrived t s c .keeps
+
+  module _ (t : T (shaped r)) (s : Round) (c : Later r s) where
+    -- number, voters and base stay
+    pub later-frame : frame s ≡ with-table (frame r) (s .table)
+    later-frame = later-arrived t s c .framed
+
+    -- blocks are added and none changes
+    pub later-blocks : time.Grown (blocks-of r) (blocks-of s)
+    later-blocks = comes-grown (frame r) (held r) (shaped-kept r fits t) (s .table) (held s) (later-arrived t s c .comes)
+
+    -- votes are recorded, a first and a second, and none is taken back
+    pub later-votes : (phase : Phase) (p : ℕ) → time.Later (votes-of r phase p) (votes-of s phase p)
+    later-votes phase p = comes-later (frame r) (held r) (shaped-kept r fits t) (s .table) (held s) (later-arrived t s c .comes) (bit phase p)
 
 -- calls after calls
 pub later-on : (r s q : Round) → Later r s → Later s q → Later r q
