@@ -1,0 +1,4 @@
+pub mod Refusals
+pub mod First
+pub mod Second
+pub mod Third
