@@ -1,1 +1,3 @@
 pub mod Asking
+pub mod Voting
+pub mod Refusing
