@@ -1,3 +1,5 @@
 pub mod Asking
 pub mod Voting
 pub mod Refusing
+pub mod Shown
+pub mod Meant
