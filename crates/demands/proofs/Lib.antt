@@ -3,3 +3,4 @@ pub mod Voting
 pub mod Refusing
 pub mod Shown
 pub mod Meant
+pub mod Lasting
