@@ -4,3 +4,5 @@ pub mod Refusing
 pub mod Shown
 pub mod Meant
 pub mod Lasting
+pub mod Ballots
+pub mod Beyond

@@ -2,25 +2,22 @@
 -- descendant. While precommit equivocators weigh at most the fault weight at the later call, a completable round stays so and its estimate
 -- stays or moves towards the base. An estimate always lies at or below the finalized block.
 -- `Third` holds of every reached round and every later one, with blocks added between, and speaks of what the calls tell: at most F these
--- are the definitions (`Second`), above it the written step. `told-twice-needed` computes why the premise stands.
+-- are the definitions (`Second`), above it the written step. `Beyond` says why it stands there.
 use mathlib.Core.Path.{_≡_}
 use mathlib.Core.Logic.{_⊎_}
-use Prim.Native.Nat.{ℕ, _≤_}
+use Prim.Native.Nat.{ℕ}
 use lib.Dec.{T}
 use Rattle.grandpa.specs.Tree.{below}
-use Rattle.grandpa.specs.Vote.{equivocators}
-use Rattle.grandpa.specs.Answers as paper
-use Rattle.grandpa.specs.Time as time
 use Rattle.blocks.specs.declared.BlockTable.{BlockTable}
 use Rattle.blocks.specs.Table.{Stands}
-use Rattle.context.specs.declared.Phase.the-variants.{Prevote, Precommit}
+use Rattle.context.specs.declared.Phase.the-variants.{Precommit}
 use Rattle.nodes.specs.Nodes.{col}
 use Rattle.round.specs.declared.Round.{Round}
 use Rattle.round.specs.declared.Told.{Told}
 use Rattle.round.specs.declared.Told.the-variants as told
 use Rattle.round.specs.declared.Whether.the-variants as whether
 use Rattle.round.specs.Ask as ask
-use Rattle.round_laws.specs.Later.{voters-of, blocks-of, votes-of}
+use Rattle.round_laws.specs.Later.{Later, Reached}
 use Rattle.demands.specs.Second.{Few, ghost-told}
 
 -- two blocks were told, and in this table the second is the first or its descendant
@@ -51,3 +48,17 @@ pub record Third (r s : Round) : Type 0 where
   -- blocks keep their ids, numbers and parents
   pub blocks : (id b : ℕ) → Stands (r .table) id b
       → Stands (s .table) id b × (col (s .table .numbers) b ≡ col (r .table .numbers) b) × (col (s .table .parents) b ≡ col (r .table .parents) b)
+
+-- the premise of the two is needed: with precommit equivocators above F a completable round may stop being so, and its estimate may move
+-- away from the base
+pub record Beyond : Type 0 where
+  pub earlier : Round
+  pub later : Round
+  pub reached : Reached earlier
+  pub calls : Later earlier later
+  pub above : Few Precommit later → ⊥
+  pub was-completable : ask.completable earlier ≡ whether.Yes
+  pub not-completable : ask.completable later ≡ whether.No
+  pub was-estimate : ask.estimate earlier ≡ told.Block 11 1
+  pub estimate : ask.estimate later ≡ told.Block 12 2
+  pub away : Below (later .table) (ask.estimate earlier) (ask.estimate later)
