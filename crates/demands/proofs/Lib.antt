@@ -1,5 +1,6 @@
 pub mod Asking
 pub mod Voting
+pub mod Recording
 pub mod Refusing
 pub mod Shown
 pub mod Meant

@@ -61,6 +61,7 @@ use Rattle.demands.specs.Refusals.{by-done, by-block, by-vote, by-told, 
 use Rattle.demands.specs.First.{Keeps, Breaks, Exactly, Nine, New-due, voters-misshaped, table-misshaped, no-base, Block-due, misshaped, by-table, Vote-due, Reads, Changes, Takes, Opens, First}
 use Rattle.demands.proofs.Asking.{no-number, number-is, nine-exactly, reads, votes-lists, history-lists, final-lists, views-exactly}
 use Rattle.demands.proofs.Voting.{rules, vote-exactly}
+use Rattle.demands.proofs.Recording.{vote-records}
 
 -- a number is told by a refusal alone
 refused-done : (x : Done) (n : ℕ) → by-done x ≡ some n → x ≡ done.Refused n
@@ -183,6 +184,7 @@ module _ (r : Round) where
           keeps = λ fits t. import-shaped r fits t phase signer p;
         };
         rule = rules r phase signer p;
+        records = vote-records r phase signer p;
         equal = import-equal r phase signer p;
       }
 

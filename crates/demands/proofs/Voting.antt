@@ -41,14 +41,14 @@ use Rattle.demands.specs.First.{Keeps, Exactly, Voter-at, recorded-of, F
 use Rattle.demands.proofs.Asking.{no-number, number-is}
 
 module _ (r : Round) (phase : Phase) (signer : ℕ) (p : Pair) where
-  abbrev judged : Verdict
+  abbrev pub judged : Verdict
   judged = verdict (frame r) phase signer p (held r)
 
   abbrev answer-by : Verdict → ImportResult
   answer-by d = apply (frame r) phase signer p (held r) d .answer
 
   -- what is due to a first vote of the voter at place k
-  abbrev aimed : ℕ → Verdict
+  abbrev pub aimed : ℕ → Verdict
   aimed k =
       judge-first (r .table .ids) (r .table .numbers) (r .table .parents) (r .table .count) (r .graph .base) (voter-at (r .context .voters) k) p
 
@@ -72,7 +72,7 @@ module _ (r : Round) (phase : Phase) (signer : ℕ) (p : Pair) where
           (get-voter (r .context .voters) (voters-good r t) k (v .inside)) in
         rw q
 
-    judged-by : (k : ℕ) → Voter-at r signer k → (m : VoteMultiplicity) → recorded-of r phase k ≡ m
+    pub judged-by : (k : ℕ) → Voter-at r signer k → (m : VoteMultiplicity) → recorded-of r phase k ≡ m
         → judged ≡ by-rule (add-vote m p) (aimed k) (voter-at (r .context .voters) k)
     judged-by k v m e =
         judged-voter k v ∙ ap (λ (x : VoteMultiplicity). by-rule (add-vote x p) (aimed k) (voter-at (r .context .voters) k)) e
@@ -97,7 +97,7 @@ module _ (r : Round) (phase : Phase) (signer : ℕ) (p : Pair) where
           false-not (below (col (r .table .parents)) (r .graph .base) b) f,
         )
 
-    aimed-first : (k b : ℕ) → Stands (r .table) (p .target) b → col (r .table .numbers) b ≡ p .number
+    pub aimed-first : (k b : ℕ) → Stands (r .table) (p .target) b → col (r .table .numbers) b ≡ p .number
         → T (below (col (r .table .parents)) (r .graph .base) b) → aimed k ≡ verdicts.First (voter-at (r .context .voters) k) b
     unfolding judge-first
     aimed-first k b s e h =

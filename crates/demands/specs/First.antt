@@ -32,6 +32,7 @@ use Rattle.tracker.specs.declared.VoteMultiplicity.{VoteMultiplicity}
 use Rattle.tracker.specs.declared.VoteMultiplicity.the-variants as recorded
 use Rattle.tracker.specs.Recorded as tracker
 use Rattle.tracker.specs.Recorded.{same}
+use Rattle.judging.specs.declared.Equivocation.{Equivocation}
 use Rattle.judging.specs.declared.ImportResult.{ImportResult}
 use Rattle.judging.specs.declared.ImportResult.the-variants as vote
 use Rattle.listing.specs.declared.Wanted.the-variants as wanted
@@ -154,12 +155,20 @@ pub record Changes (r : Round) {A : Type 0} (number : A → Option ℕ) (round :
   pub steps : Keeps r → call ≡ step
   pub keeps : Fits r → Keeps r → Keeps (round call)
 
+-- rule 2 and rule 4 record the pair, and nothing else is recorded
+pub record Records (r : Round) (phase : Phase) (signer : ℕ) (p : Pair) (x : Imported) : Type 0 where
+  pub first : x .answer ≡ vote.Counted → (k : ℕ) → Voter-at r signer k → recorded-of (x .round) phase k ≡ recorded.Single p
+  pub second : (e : Equivocation) → x .answer ≡ vote.Equivocated e → (k : ℕ) → Voter-at r signer k
+      → recorded-of (x .round) phase k ≡ recorded.Equivocated (e .first) p
+  pub others : (other : Phase) (k : ℕ) → (other ≡ phase → Voter-at r signer k → ⊥) → recorded-of (x .round) other k ≡ recorded-of r other k
+
 -- a vote; one of a stranger, a duplicate and a third pair leave the round equal too (`Untaken`)
 pub record Takes (r : Round) (phase : Phase) (signer : ℕ) (p : Pair) : Type 0 where
   pub changes :
       Changes r (λ (x : Imported). by-vote (x .answer)) (λ (x : Imported). x .round) (Vote-due r phase signer p) (call.import-vote phase signer p r)
       (call.imported phase signer p r)
   pub rule : (a : ImportResult) → (call.import-vote phase signer p r .answer ≡ a) ↔ Rule r phase signer p a
+  pub records : Records r phase signer p (call.import-vote phase signer p r)
   pub equal : Untaken (call.import-vote phase signer p r .answer) → call.import-vote phase signer p r .round ≡ r
 
 -- a list in a lent buffer
