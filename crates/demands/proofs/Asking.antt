@@ -1,14 +1,13 @@
 -- Calls that only read a round, calls that list into a lent buffer, and two views: when each refuses.
-use mathlib.Core.Bool.{Bool, true, false, cond}
+use mathlib.Core.Bool.{cond}
 use mathlib.Core.List.{List}
 use mathlib.Core.Option.{Option, none, some}
 use mathlib.Core.Path.{_≡_, refl, sym, ap, subst, _∙_}
-use mathlib.Core.Logic.{_⊎_, inl, inr}
-use Prim.Native.Nat.{ℕ, _*_, _≤_, _<_}
+use Prim.Native.Nat.{ℕ, _*_, _<_}
 use native.Mathlib.Omega.{arith}
 use lib.Dec.{T, ltb, ltb→lt}
 use lib.ListN.{length}
-use borrow.Author.Tests.{lt-ltb, le-ltb}
+use borrow.Author.Tests.{lt-ltb}
 use Rattle.loops.specs.Listing.{front}
 use Rattle.loops.proofs.Tests.{T-true, true-T, true-false, false-not, decT}
 use Rattle.context.specs.declared.Phase.{Phase}
@@ -22,13 +21,11 @@ use Rattle.round.specs.Shape.{shaped}
 use Rattle.round.specs.Ask.{refused, entries-of, records, listed, votes-of, historical-votes, finalizing, finalizing-precommits}
 use Rattle.round_laws.proofs.Keeps.{on-true}
 use Rattle.round_laws.proofs.Refusals.{on-test}
-use Rattle.two_views.specs.declared.Views.the-variants.{Weight}
-use Rattle.two_views.specs.One.{One}
 use Rattle.two_views.specs.Views.{agree, views}
 use Rattle.two_views.proofs.Agreements.{agree-means, means-agree}
 use Rattle.two_views.proofs.Called.{views-told, views-unlike, views-misshaped}
 use Rattle.demands.specs.Refusals.{by-list, by-views}
-use Rattle.demands.specs.First.{Keeps, Breaks, Exactly, Nine, misshaped, List-due, too-short, Finalizing-due, none-final, Views-due, one-misshaped, other-misshaped, unlike, Reads, Lists}
+use Rattle.demands.specs.First.{Keeps, Exactly, Nine, misshaped, List-due, too-short, Finalizing-due, none-final, Views-due, one-misshaped, other-misshaped, unlike, Reads, Lists}
 
 pub no-number : {n : ℕ} → none ≡ some n → ⊥
 no-number e = let z : _≡_ {A = ℕ} 0 1 = cc in omega arith

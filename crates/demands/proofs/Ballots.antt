@@ -2,7 +2,6 @@
 use mathlib.Core.List.{List, [], _∷_}
 use mathlib.Core.Path.{_≡_, refl, sym, ap, subst, _∙_}
 use Prim.Native.Nat.{ℕ, _≤_, _<_}
-use lib.Dec.{T}
 use Rattle.weights.specs.Weights.{most}
 use Rattle.grandpa.specs.Weight.{fault}
 use Rattle.grandpa.specs.Vote.{equivocators}

@@ -3,7 +3,7 @@
 -- moves to 12, and 14 has become possible.
 use mathlib.Core.Bool.{Bool, true, false, cond}
 use mathlib.Core.List.{List, [], _∷_}
-use mathlib.Core.Option.{Option, none, some}
+use mathlib.Core.Option.{Option, some}
 use mathlib.Core.Path.{_≡_, refl, sym, ap, subst, _∙_}
 use Prim.Native.Nat.{ℕ, _≤_}
 use native.Mathlib.Omega.{arith}
@@ -15,7 +15,6 @@ use Rattle.columns.specs.Find as columns
 use Rattle.columns.specs.Lists.{padded}
 use Rattle.columns.specs.Blank.{blank}
 use Rattle.weights.specs.Weights.{most}
-use Rattle.grandpa.specs.Weight.{fault}
 use Rattle.grandpa.specs.Tree.{within, below}
 use Rattle.grandpa.specs.Answers.{Told, told, told-from, ghost-of, highest-of, first-of, search-up, finalized-of, estimate-of, completable-of}
 use Rattle.voter_pairs.specs.Voters.{voters, enter}
@@ -46,8 +45,8 @@ use Rattle.round_laws.specs.Later.{Later, here, Reached, answers-of}
 use Rattle.round_laws.proofs.Keeps.{opened-again, new-shaped}
 use Rattle.round_laws.proofs.Lasting.{reached-later}
 use Rattle.demands.specs.First.{Keeps}
-use Rattle.demands.specs.Second.{Few, shown}
-use Rattle.demands.specs.Third.{Below, Beyond}
+use Rattle.demands.specs.Second.{shown}
+use Rattle.demands.specs.Third.{Beyond}
 use Rattle.demands.proofs.Shown.{estimate-shown, completable-shown}
 use Rattle.demands.proofs.Meant.{keeps}
 use Rattle.demands.proofs.Ballots.{Ballot, after, taken, after-later, Became, after-becomes, told-of, twice-weight, became-told, became-few}

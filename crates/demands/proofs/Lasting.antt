@@ -3,8 +3,8 @@ use mathlib.Core.Bool.{Bool, true, false, cond, not, _&&_}
 use mathlib.Core.List.{List}
 use mathlib.Core.Option.{Option, none, some}
 use mathlib.Core.Path.{_≡_, refl, sym, ap, subst, _∙_}
-use mathlib.Core.Logic.{_⊎_, inl, inr}
-use Prim.Native.Nat.{ℕ, zero, suc, _≤_, _<_}
+use mathlib.Core.Logic.{inl, inr}
+use Prim.Native.Nat.{ℕ, _≤_, _<_}
 use native.Mathlib.Decide.{ℕ-discrete}
 use native.Mathlib.Omega.{arith}
 use lib.Dec.{T, leb}
@@ -18,6 +18,7 @@ use Rattle.grandpa.specs.Possible.{possible-at}
 use Rattle.grandpa.specs.Answers.{Told, told-from, first-of, settled-at, estimate-of, completable-of, with-node}
 use Rattle.grandpa.specs.Time as time
 use Rattle.grandpa.specs.Time.{Down, Ordered}
+use Rattle.grandpa.proofs.Votes.{equivocators-grow}
 use Rattle.grandpa.proofs.Kept.{told-ordered}
 use Rattle.voter_info.specs.declared.Lookup.{Lookup}
 use Rattle.voter_info.specs.declared.Lookup.the-variants.{Voter, Outside}
@@ -25,19 +26,15 @@ use Rattle.voter_info.specs.Info.{look-up}
 use Rattle.voter_set.specs.declared.VoterSet.{VoterSet}
 use Rattle.blocks.specs.declared.BlockTable.{BlockTable}
 use Rattle.blocks.specs.Table.{Stands}
-use Rattle.blocks.specs.Add.{step}
 use Rattle.context.specs.declared.Phase.{Phase}
 use Rattle.context.specs.declared.Phase.the-variants.{Prevote, Precommit}
 use Rattle.nodes.specs.declared.Found.{Found}
 use Rattle.nodes.specs.declared.Found.the-variants.{At, Nothing}
 use Rattle.nodes.specs.Nodes.{col}
 use Rattle.tracker.specs.declared.Pair.{Pair}
-use Rattle.judging.specs.declared.Verdict.{Verdict}
-use Rattle.judging.specs.declared.Verdict.the-variants as verdicts
-use Rattle.judging.specs.declared.ImportResult.the-variants as vote
 use Rattle.judging.specs.Judge.{judge}
 use Rattle.judging.proofs.Voters.{position-inside}
-use Rattle.answer_laws.specs.Faithful.{voters, votes, table}
+use Rattle.answer_laws.specs.Faithful.{voters, table}
 use Rattle.answer_laws.specs.Seats.{Seated}
 use Rattle.answer_laws.proofs.Stays.{within-stored}
 use Rattle.importing.specs.Import.{Frame, Held, verdict, apply, import}
@@ -56,14 +53,12 @@ use Rattle.round.specs.declared.Whether.the-variants as whether
 use Rattle.round.specs.Shape.{frame, held}
 use Rattle.round.specs.Ask as ask
 use Rattle.round_laws.specs.Later.{Later, here, Reached, voters-of, blocks-of, votes-of, answers-of}
-use Rattle.round_laws.proofs.Shaped.{shaped-kept}
-use Rattle.round_laws.proofs.Lasting.{Arrived, later-arrived, later-frame, later-blocks, reached-shaped, reached-fits, reached-state, reached-later, answers-stay}
-use Rattle.demands.specs.First.{Keeps}
-use Rattle.demands.specs.Second.{Weighs, Few, shown, ghost-told}
+use Rattle.round_laws.proofs.Lasting.{later-arrived, later-frame, later-blocks, later-votes, reached-fits, reached-state, reached-later, answers-stay}
+use Rattle.demands.specs.Second.{Weighs, Few, shown, meant}
 use Rattle.demands.specs.Third.{Below, Stays, Third}
 use Rattle.demands.proofs.Asking.{no-number}
 use Rattle.demands.proofs.Shown.{ghost-shown, finalized-shown, estimate-shown, completable-yes}
-use Rattle.demands.proofs.Meant.{keeps, kept, whole}
+use Rattle.demands.proofs.Meant.{keeps, kept, whole, told-meant}
 
 -- A round whose voters weigh nothing has no voter, takes no vote and tells nothing.
 
@@ -250,6 +245,7 @@ module _ (r : Round) (reached : Reached r) (s : Round) (later : Later r s) where
           completable = λ f q. absurd (not-completable q);
           estimate = λ f q. absurd (not-completable q);
           ordered = inl (finalized-shown s (keeps s reached-s) ∙ ap (λ (x : Told). shown s (x .finalized)) silent-s);
+          definitions = λ weighs few. absurd (omega (arith, e, weighs));
           blocks = blocks-stay;
         }
 
@@ -266,6 +262,30 @@ module _ (r : Round) (reached : Reached r) (s : Round) (later : Later r s) where
     few-then =
         subst (λ (v : VoterSet).
         equivocators (record { size = v .count; weight = λ p. getD (v .weights) p 0 }) (votes-of s Precommit) ≤ fault (v .total)) same-voters
+
+    -- equivocators of the later round were as few before
+    few-before : Few Prevote s → Few Prevote r
+    few-before few =
+        let then : equivocators (voters-of r) (votes-of s Prevote) ≤ fault (r .context .voters .total) =
+        subst (λ (v : VoterSet).
+        equivocators (record { size = v .count; weight = λ p. getD (v .weights) p 0 }) (votes-of s Prevote) ≤ fault (v .total)) same-voters few in
+        omega (
+          arith,
+          then,
+          equivocators-grow (voters-of r) (votes-of r Prevote) (votes-of s Prevote)
+              (λ p h. later-votes r (reached-fits r reached) (keeps r reached) s later Prevote p),
+        )
+
+    definitions-stay : Few Prevote s → time.Kept (col (s .table .parents)) (Few Precommit s) (meant r) (meant s)
+    definitions-stay few =
+        subst (λ (x : Told). time.Kept (col (s .table .parents)) (Few Precommit s) x (meant s)) (told-meant r reached weighs (few-before few))
+        (subst (time.Kept (col (s .table .parents)) (Few Precommit s) (answers-of r)) (told-meant s reached-s weighs-s few)
+        (record {
+          ghost = stay .ghost;
+          finalized = stay .finalized;
+          completable = λ f. stay .completable (few-then f);
+          estimate = λ f. stay .estimate (few-then f);
+        }))
 
     completable-then : Few Precommit s → ask.completable r ≡ whether.Yes → T (s .answers .completable)
     completable-then few q = stay .completable (few-then few) (completable-yes r (keeps r reached) .0 q)
@@ -294,6 +314,7 @@ module _ (r : Round) (reached : Reached r) (s : Round) (later : Later r s) where
               rw (finalized-shown s (keeps s reached-s), estimate-shown s (keeps s reached-s))
               (stays-by s s (omega arith) (λ x h. refl) (answers-of s .finalized) (answers-of s .estimate) (seat-in _ _ _ (s .answers .finalized) (l .finalized))
               (seat-in _ _ _ (s .answers .estimate) (l .estimate)) (answers-ordered s reached-s weighs-s));
+          definitions = λ w few. definitions-stay few;
           blocks = blocks-stay;
         }
 

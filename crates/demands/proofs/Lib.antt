@@ -1,9 +1,11 @@
 pub mod Asking
 pub mod Voting
 pub mod Recording
+pub mod Heard
 pub mod Refusing
 pub mod Shown
 pub mod Meant
+pub mod Weighing
 pub mod Lasting
 pub mod Ballots
 pub mod Beyond

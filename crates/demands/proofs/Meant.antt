@@ -1,5 +1,5 @@
 -- Demand 2: what the calls tell of a reached round is what the definitions say of its recorded votes.
-use mathlib.Core.Bool.{Bool, true, false, cond}
+use mathlib.Core.Bool.{Bool, false, cond}
 use mathlib.Core.Option.{Option, none, some}
 use mathlib.Core.Path.{_≡_, refl, sym, ap, subst, _∙_}
 use mathlib.Core.Logic.{_↔_, inl, inr}
@@ -8,9 +8,9 @@ use native.Mathlib.Omega.{arith}
 use lib.Dec.{T, ltb→lt, ltb}
 use Rattle.loops.proofs.Tests.{left-of}
 use Rattle.grandpa.specs.Weight.{fault}
-use Rattle.grandpa.specs.Tree.{Blocks, Tabled, below}
-use Rattle.grandpa.specs.Vote.{Vote, Voters, total, equivocators}
-use Rattle.grandpa.specs.Answers.{Says, Ghost, ghost-of, Finalized, finalized-of, Estimate, estimate-of, Completable, completable-of, every-child, with-node, Told, told-from, told}
+use Rattle.grandpa.specs.Tree.{below}
+use Rattle.grandpa.specs.Vote.{total, equivocators}
+use Rattle.grandpa.specs.Answers.{Says, ghost-of, Finalized, finalized-of, Estimate, estimate-of, Completable, completable-of, every-child, with-node, Told, told-from, told}
 use Rattle.grandpa.proofs.Trees.{below-le}
 use Rattle.grandpa.proofs.Answers.{ghost-says, ghost-unique, ghost-inside, finalized-unique, finalized-says, estimate-unique, estimate-says, completable-says, forms-agree}
 use Rattle.voter_laws.proofs.Goods.{total-used}
@@ -21,7 +21,6 @@ use Rattle.answer_laws.proofs.Ghosted.{votes-placed}
 use Rattle.held_laws.specs.Kept.{setting, Kept}
 use Rattle.held_laws.proofs.Parts.{kept-faithful}
 use Rattle.round.specs.declared.Round.{Round}
-use Rattle.round.specs.declared.Told.the-variants as block
 use Rattle.round.specs.declared.Whether.the-variants as whether
 use Rattle.round.specs.Shape.{frame, held}
 use Rattle.round.specs.Ask as ask
@@ -29,7 +28,7 @@ use Rattle.round_laws.specs.Later.{Reached, voters-of, blocks-of, votes-of, ans
 use Rattle.round_laws.proofs.Shaped.{shaped-kept}
 use Rattle.round_laws.proofs.Lasting.{reached-shaped, reached-fits, answers-meant}
 use Rattle.demands.specs.First.{Keeps}
-use Rattle.demands.specs.Second.{Weighs, Few, shown, Tells, ghost-told, Is-ghost, Is-finalized, Is-estimate, Is-completable, Is-completable-noded, Second}
+use Rattle.demands.specs.Second.{Weighs, Few, shown, meant, Is-ghost, Is-finalized, Is-estimate, Is-completable, Is-completable-noded, Second}
 use Rattle.demands.proofs.Shown.{ghost-shown, finalized-shown, estimate-shown, completable-shown, completable-yes, state-shown}
 
 -- what is told from the one block of which P holds
@@ -61,8 +60,8 @@ module _ (r : Round) (reached : Reached r) where
     falls : (k : ℕ) → blocks-of r .up k ≤ pred k
     falls = faith .tabled .falls
 
-    meant : answers-of r ≡ told (voters-of r) (blocks-of r) (r .graph .base) (votes-of r Prevote) (votes-of r Precommit)
-    meant = answers-meant r reached weighs few
+    pub told-meant : answers-of r ≡ meant r
+    told-meant = answers-meant r reached weighs few
 
     only-ghost : (a b : ℕ) → Is-ghost r a → Is-ghost r b → a ≡ b
     only-ghost = ghost-unique (voters-of r) (blocks-of r) (faith .tabled) some-weight (votes-of r Prevote) (few-of Prevote few)
@@ -112,7 +111,7 @@ module _ (r : Round) (reached : Reached r) where
     said : Said (answers-of r)
     unfolding told
     said =
-        subst Said (sym meant)
+        subst Said (sym told-meant)
         (told-says (ghost-of (voters-of r) (blocks-of r) (votes-of r Prevote)) (ghost-says (voters-of r) (blocks-of r) (votes-of r Prevote)))
 
     above-ghost : (g b : ℕ) → Is-ghost r g → T (below (blocks-of r .up) b g) → b < r .table .count
@@ -179,5 +178,5 @@ module _ (r : Round) (reached : Reached r) where
                 estimate-shown r keeps ∙ ap (shown r) (n .2),
                 completable-shown r keeps ∙ ap (λ (b : Bool). cond b whether.Yes whether.No) (n .3),
               );
-          computed = meant;
+          computed = told-meant;
         }

@@ -1,11 +1,11 @@
 -- A vote that is counted, and one that makes an equivocation, is recorded, and nothing else is.
-use mathlib.Core.Bool.{Bool, true, false, cond}
+use mathlib.Core.Bool.{false}
 use mathlib.Core.List.{List}
 use mathlib.Core.Path.{_≡_, refl, sym, ap, subst, _∙_}
 use mathlib.Core.Logic.{_≢_}
 use Prim.Native.Nat.{ℕ, _<_}
 use native.Mathlib.Omega.{arith}
-use lib.Dec.{T, eqb, eqb→eq}
+use lib.Dec.{T}
 use lib.ListN.{set, getD}
 use lib.Seq.{getD-set-same, getD-set-other}
 use Rattle.loops.proofs.Tests.{true-T, false-not, decT, left-of, right-of}
@@ -43,7 +43,7 @@ use Rattle.round.proofs.Steps.{sized-says}
 use Rattle.round_laws.proofs.Refusals.{import-nine}
 use Rattle.two_views.proofs.Rounds.{voters-good}
 use Rattle.demands.specs.First.{Keeps, Voter-at, recorded-of, First-vote, Rule, refused, stranger, first, again, first-again, second-again, second, third, Records}
-use Rattle.demands.proofs.Voting.{judged, aimed, judged-by, aimed-first, answer-rule}
+use Rattle.demands.proofs.Voting.{judged, judged-by, aimed-first, answer-rule}
 
 -- one bit for each voter and phase
 bit-one : (i j : Phase) (k m : ℕ) → bit i k ≡ bit j m → (i ≡ j) × (k ≡ m)
@@ -214,7 +214,7 @@ module _ (r : Round) (phase : Phase) (signer : ℕ) (p : Pair) where
       let t = c .0 in
       let m = c .1 in
       let e : judged r phase signer p ≡ verdicts.Second (voter-at (r .context .voters) m) (x .first) =
-        judged-by r phase signer p t m (c .2) (recorded.Single (x .first)) (c .3) ∙ rw (c .4) in
+      judged-by r phase signer p t m (c .2) (recorded.Single (x .first)) (c .3) ∙ rw (c .4) in
       let once = spoke-once (r .votes) (r .table .ids) (r .table .numbers) (bit phase m) (x .first) (c .3) in
       subst (λ (m : ℕ). recorded-of (import-vote phase signer p r .round) phase m ≡ recorded.Equivocated (x .first) p) (the-place t m k (c .2) a)
       (recorded-next t (verdicts.Second (voter-at (r .context .voters) m) (x .first)) e phase m

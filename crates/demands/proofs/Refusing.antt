@@ -1,14 +1,11 @@
 -- Demand 1, for every public call and every round.
 use mathlib.Core.Bool.{Bool, true, false, cond}
-use mathlib.Core.List.{List}
-use mathlib.Core.Option.{Option, none, some}
+use mathlib.Core.Option.{none, some}
 use mathlib.Core.Path.{_≡_, refl, sym, ap, subst, _∙_}
 use mathlib.Core.Logic.{_↔_}
-use Prim.Native.Nat.{ℕ, _≤_}
+use Prim.Native.Nat.{ℕ}
 use native.Mathlib.Omega.{arith}
-use lib.Dec.{T}
 use Rattle.loops.proofs.Tests.{T-true, true-T, false-not}
-use Rattle.weights.specs.Weights.{most}
 use Rattle.voter_set.specs.declared.VoterSet.{VoterSet}
 use Rattle.voter_set.specs.declared.Nth.{Nth}
 use Rattle.voter_set.specs.declared.Nth.the-variants as nth
@@ -20,7 +17,6 @@ use Rattle.blocks.specs.declared.Place.the-variants as place
 use Rattle.blocks.specs.declared.Answer.{Answer}
 use Rattle.blocks.specs.declared.Answer.the-variants as block
 use Rattle.blocks.specs.declared.Added.{Added}
-use Rattle.blocks.specs.Table.{Stands, Absent}
 use Rattle.blocks.specs.Add.{place-of, on-place, step}
 use Rattle.block_shape.specs.Shape.{tabled}
 use Rattle.block_shape.proofs.Shapes.{tabled-shaped, shaped-tabled}
@@ -48,20 +44,19 @@ use Rattle.round.specs.declared.Told.{Told}
 use Rattle.round.specs.declared.Told.the-variants as told
 use Rattle.round.specs.declared.Whether.the-variants as whether
 use Rattle.round.specs.Shape.{frame, held, shaped}
-use Rattle.round.specs.Calls as call
-use Rattle.round.specs.Calls.{opened, nobody, no-blocks, not-opened, new, block-of, grown, add-block, imported, import-vote, sought, with-sought, precommit-ghost, marked, with-history, set-index}
+use Rattle.round.specs.Calls.{opened, not-opened, new, block-of, grown, add-block, imported, import-vote, sought, with-sought, precommit-ghost, marked, with-history, set-index}
 use Rattle.round.specs.Ask as ask
 use Rattle.round.proofs.Steps.{graph-kept}
 use Rattle.round_laws.specs.Fits.{Fits, Marked}
-use Rattle.round_laws.specs.Later.{Reached}
 use Rattle.round_laws.proofs.Shaped.{shaped-kept, kept-shaped, shaped-marked}
 use Rattle.round_laws.proofs.Keeps.{on-true, new-shaped, import-shaped, add-shaped, ghost-shaped, index-shaped}
 use Rattle.round_laws.proofs.Refusals.{on-test, import-equal, add-equal, ghost-equal, index-equal}
 use Rattle.demands.specs.Refusals.{by-done, by-block, by-vote, by-told, by-number, by-whether, by-heard, by-primary, by-state}
-use Rattle.demands.specs.First.{Keeps, Breaks, Exactly, Nine, New-due, voters-misshaped, table-misshaped, no-base, Block-due, misshaped, by-table, Vote-due, Reads, Changes, Takes, Opens, First}
+use Rattle.demands.specs.First.{Keeps, Breaks, Nine, New-due, voters-misshaped, table-misshaped, no-base, Block-due, misshaped, by-table, Changes, Takes, Opens, First}
 use Rattle.demands.proofs.Asking.{no-number, number-is, nine-exactly, reads, votes-lists, history-lists, final-lists, views-exactly}
 use Rattle.demands.proofs.Voting.{rules, vote-exactly}
 use Rattle.demands.proofs.Recording.{vote-records}
+use Rattle.demands.proofs.Heard.{prevotes-counted, precommits-counted}
 
 -- a number is told by a refusal alone
 refused-done : (x : Done) (n : ℕ) → by-done x ≡ some n → x ≡ done.Refused n
@@ -244,6 +239,8 @@ module _ (r : Round) where
         base = reads r by-told _ _ refl refl;
         prevote-participation = reads r by-heard _ _ refl refl;
         precommit-participation = reads r by-heard _ _ refl refl;
+        prevotes-heard = prevotes-counted r;
+        precommits-heard = precommits-counted r;
         primary-voter = reads r by-primary _ _ (primary-quiet (nth-mod (r .context .voters) (r .number))) refl;
         state = reads r by-state _ _ refl refl;
         voters = reads r (λ (x : Voters). by-done (x .answer)) _ _ refl refl;

@@ -1,15 +1,13 @@
 -- The answer to a vote is the one whose rule holds, on every round; so 9, 11, 12 and 13 are given exactly when they are due.
 use mathlib.Core.Bool.{Bool, true, false, cond}
-use mathlib.Core.Option.{Option, none, some}
+use mathlib.Core.Option.{some}
 use mathlib.Core.Path.{_≡_, refl, sym, ap, subst, _∙_}
 use mathlib.Core.Logic.{_≢_, _⊎_, inl, inr, _↔_}
-use Prim.Native.Nat.{ℕ, _<_}
+use Prim.Native.Nat.{ℕ}
 use native.Mathlib.Decide.{ℕ-discrete}
-use native.Mathlib.Omega.{arith}
-use lib.Dec.{T, eqb}
-use lib.ListN.{getD}
+use lib.Dec.{T}
 use borrow.Author.Tests.{eq-eqb, ne-eqb}
-use Rattle.loops.proofs.Tests.{T-true, true-T, false-not, decT}
+use Rattle.loops.proofs.Tests.{true-T, false-not, decT}
 use Rattle.grandpa.specs.Tree.{below}
 use Rattle.voter_info.specs.declared.Lookup.the-variants.{Voter, Outside}
 use Rattle.voter_set.specs.Lookup.{get}
@@ -61,15 +59,15 @@ module _ (r : Round) (phase : Phase) (signer : ℕ) (p : Pair) where
     unfolding judge
     judged-outside f =
         let q : get (r .context .voters) signer ≡ Outside =
-          get-outside (r .context .voters) (voters-good r t) signer (λ k h e. f k (record { inside = h; named = e })) in
+        get-outside (r .context .voters) (voters-good r t) signer (λ k h e. f k (record { inside = h; named = e })) in
         rw q
 
     judged-voter : (k : ℕ) → Voter-at r signer k → judged ≡ by-rule (add-vote (recorded-of r phase k) p) (aimed k) (voter-at (r .context .voters) k)
     unfolding judge
     judged-voter k v =
         let q : get (r .context .voters) signer ≡ Voter (voter-at (r .context .voters) k) =
-          subst (λ (x : ℕ). get (r .context .voters) x ≡ Voter (voter-at (r .context .voters) k)) (v .named)
-          (get-voter (r .context .voters) (voters-good r t) k (v .inside)) in
+        subst (λ (x : ℕ). get (r .context .voters) x ≡ Voter (voter-at (r .context .voters) k)) (v .named)
+        (get-voter (r .context .voters) (voters-good r t) k (v .inside)) in
         rw q
 
     pub judged-by : (k : ℕ) → Voter-at r signer k → (m : VoteMultiplicity) → recorded-of r phase k ≡ m

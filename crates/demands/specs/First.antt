@@ -12,7 +12,9 @@ use lib.Dec.{T}
 use lib.ListN.{length, getD}
 use Rattle.loops.specs.Listing.{front}
 use Rattle.weights.specs.Weights.{most}
+use Rattle.loops.specs.Sum.{weigh}
 use Rattle.grandpa.specs.Tree.{below}
+use Rattle.grandpa.specs.Vote as meant
 use Rattle.voter_set.specs.declared.VoterSet.{VoterSet}
 use Rattle.voter_set.specs.Good.{good}
 use Rattle.voter_set.specs.Lookup.{nth-mod}
@@ -53,6 +55,7 @@ use Rattle.round.specs.Shape.{frame, held, shaped}
 use Rattle.round.specs.Calls as call
 use Rattle.round.specs.Ask as ask
 use Rattle.round_laws.specs.Fits.{Fits, Marked}
+use Rattle.round_laws.specs.Later.{voters-of, votes-of}
 use Rattle.two_views.specs.Views as views
 use Rattle.two_views.specs.One.{One}
 use Rattle.demands.specs.Refusals.{by-done, by-block, by-vote, by-told, by-number, by-whether, by-heard, by-primary, by-state, by-list, by-views}
@@ -185,6 +188,13 @@ pub record Opens (number : ℕ) (voters : VoterSet) (table : BlockTable) (base :
       → call.new number voters table base ≡ record { answer = done.Yes; round = call.opened number voters table b }
   pub keeps : voters .total ≤ most → call.new number voters table base .answer ≡ done.Yes → Keeps (call.new number voters table base .round)
 
+-- heard weight and voters heard: of those with a recorded vote, each once
+abbrev pub heard-weight : Round → Phase → ℕ
+heard-weight r phase = meant.heard (voters-of r) (votes-of r phase)
+
+abbrev pub heard-voters : Round → Phase → ℕ
+heard-voters r phase = weigh (voters-of r .size) (λ i. meant.spoke (votes-of r phase i)) (λ i. 1)
+
 -- every public call of `round`, and `two_views`
 pub record First (r : Round) : Type 0 where
   pub new : (number : ℕ) (voters : VoterSet) (table : BlockTable) (base : ℕ) → Opens number voters table base
@@ -213,6 +223,9 @@ pub record First (r : Round) : Type 0 where
       Reads r by-heard (ask.prevote-participation r) (heard.Heard (r .heard .prevote) (ask.heard-in (r .graph) Prevote))
   pub precommit-participation :
       Reads r by-heard (ask.precommit-participation r) (heard.Heard (r .heard .precommit) (ask.heard-in (r .graph) Precommit))
+  -- and these are not made up
+  pub prevotes-heard : Fits r → Keeps r → ask.prevote-participation r ≡ heard.Heard (heard-weight r Prevote) (heard-voters r Prevote)
+  pub precommits-heard : Fits r → Keeps r → ask.precommit-participation r ≡ heard.Heard (heard-weight r Precommit) (heard-voters r Precommit)
   pub primary-voter : Reads r by-primary (ask.primary-voter r) (ask.primary-of (nth-mod (r .context .voters) (r .number)))
   pub state : Reads r by-state (ask.state r) (state-is.Is (ask.state-of r))
   pub voters : Reads r (λ (x : Voters). by-done (x .answer)) (ask.voters r) (record { answer = done.Yes; voters = r .context .voters })

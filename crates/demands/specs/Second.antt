@@ -1,8 +1,10 @@
 -- Demand 2: where the equivocators of each phase weigh at most the fault weight, prevote-GHOST, estimate, finalized and completable are
 -- equal to the definitions from the GRANDPA paper with the Rust's threshold. The definitions are those of grandpa's Answers; `Second`
 -- holds of every reached round that has a weight. The premise on weight is needed: a set of anyone's making may be empty, then T is 0,
--- and by the definitions every block has it, while the round, which takes no vote, tells nothing. Refusal 3 makes no such set (`Made-of`).
+-- and by the definitions every block has it, while the round, which takes no vote, tells nothing (`Empty`). Refusal 3 makes no such set
+-- (`Made-weighs`).
 use mathlib.Core.Bool.{cond}
+use mathlib.Core.List.{List}
 use mathlib.Core.Option.{Option, none, some}
 use mathlib.Core.Path.{_≡_}
 use mathlib.Core.Logic.{_↔_}
@@ -11,6 +13,8 @@ use Rattle.grandpa.specs.Weight.{fault}
 use Rattle.grandpa.specs.Vote.{equivocators}
 use Rattle.grandpa.specs.Answers as paper
 use Rattle.grandpa.specs.Answers.{Says, Ghost, every-child, with-node}
+use Rattle.voter_set.specs.declared.Answer.the-variants.{Made}
+use Rattle.voter_set.specs.Voters as set
 use Rattle.context.specs.declared.Phase.{Phase}
 use Rattle.context.specs.declared.Phase.the-variants.{Prevote, Precommit}
 use Rattle.nodes.specs.Nodes.{col}
@@ -21,7 +25,7 @@ use Rattle.round.specs.declared.Whether.the-variants as whether
 use Rattle.round.specs.declared.Answered.{Answered}
 use Rattle.round.specs.declared.Answered.the-variants as answered
 use Rattle.round.specs.Ask as ask
-use Rattle.round_laws.specs.Later.{voters-of, blocks-of, votes-of, answers-of}
+use Rattle.round_laws.specs.Later.{Reached, voters-of, blocks-of, votes-of, answers-of}
 
 -- the voters weigh something
 abbrev pub Weighs : Round → Type 0
@@ -49,7 +53,10 @@ abbrev pub ghost-told : Answered → Told
 ghost-told (answered.Is s) = s .prevote
 ghost-told (answered.Refused n) = told.Refused n
 
--- the definitions, of the recorded votes: the GHOST, and what is told from it
+-- the definitions, of the recorded votes: the four answers as they are computed; the GHOST, and what is told from it, by what fixes them
+abbrev pub meant : Round → paper.Told
+meant r = paper.told (voters-of r) (blocks-of r) (r .graph .base) (votes-of r Prevote) (votes-of r Precommit)
+
 abbrev pub Is-ghost : Round → ℕ → Type 0
 Is-ghost r = Ghost (voters-of r) (blocks-of r) (votes-of r Prevote)
 
@@ -95,4 +102,17 @@ pub record Second (r : Round) : Type 0 where
       → (ghost-told (ask.state r) ≡ told.Nothing) × (ask.finalized r ≡ told.Nothing) × (ask.estimate r ≡ told.Nothing)
       × (ask.completable r ≡ whether.No)
   -- the same in one equation, with the functions that compute the definitions
-  pub computed : answers-of r ≡ paper.told (voters-of r) (blocks-of r) (r .graph .base) (votes-of r Prevote) (votes-of r Precommit)
+  pub computed : answers-of r ≡ meant r
+
+-- a round opened on a set that `VoterSet::new` made weighs something
+abbrev pub Made-weighs : Type 0
+Made-weighs = (r : Round) (reached : Reached r) (ids weights : List ℕ) → set.new ids weights .answer ≡ Made
+    → reached .voters ≡ set.new ids weights .voters → Weighs r
+
+-- a reached round without voters, of which the definitions tell a GHOST
+pub record Empty : Type 0 where
+  pub round : Round
+  pub reached : Reached round
+  pub few : (phase : Phase) → Few phase round
+  pub meant-ghost : meant round .ghost ≡ some 0
+  pub told-ghost : ghost-told (ask.state round) ≡ told.Nothing

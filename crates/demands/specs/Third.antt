@@ -8,9 +8,10 @@ use mathlib.Core.Logic.{_⊎_}
 use Prim.Native.Nat.{ℕ}
 use lib.Dec.{T}
 use Rattle.grandpa.specs.Tree.{below}
+use Rattle.grandpa.specs.Time as time
 use Rattle.blocks.specs.declared.BlockTable.{BlockTable}
 use Rattle.blocks.specs.Table.{Stands}
-use Rattle.context.specs.declared.Phase.the-variants.{Precommit}
+use Rattle.context.specs.declared.Phase.the-variants.{Prevote, Precommit}
 use Rattle.nodes.specs.Nodes.{col}
 use Rattle.round.specs.declared.Round.{Round}
 use Rattle.round.specs.declared.Told.{Told}
@@ -18,7 +19,7 @@ use Rattle.round.specs.declared.Told.the-variants as told
 use Rattle.round.specs.declared.Whether.the-variants as whether
 use Rattle.round.specs.Ask as ask
 use Rattle.round_laws.specs.Later.{Later, Reached}
-use Rattle.demands.specs.Second.{Few, ghost-told}
+use Rattle.demands.specs.Second.{Weighs, Few, ghost-told, meant}
 
 -- two blocks were told, and in this table the second is the first or its descendant
 pub record Below (t : BlockTable) (upper lower : Told) : Type 0 where
@@ -45,6 +46,8 @@ pub record Third (r s : Round) : Type 0 where
   pub completable : Few Precommit s → ask.completable r ≡ whether.Yes → ask.completable s ≡ whether.Yes
   pub estimate : Few Precommit s → ask.completable r ≡ whether.Yes → Below (s .table) (ask.estimate s) (ask.estimate r)
   pub ordered : Stays (s .table) (ask.finalized s) (ask.estimate s)
+  -- the same over the definitions of demand 2
+  pub definitions : Weighs r → Few Prevote s → time.Kept (col (s .table .parents)) (Few Precommit s) (meant r) (meant s)
   -- blocks keep their ids, numbers and parents
   pub blocks : (id b : ℕ) → Stands (r .table) id b
       → Stands (s .table) id b × (col (s .table .numbers) b ≡ col (r .table .numbers) b) × (col (s .table .parents) b ≡ col (r .table .parents) b)
