@@ -51,19 +51,19 @@ use Rattle.demands.proofs.Shown.{estimate-shown, completable-shown}
 use Rattle.demands.proofs.Meant.{keeps}
 use Rattle.demands.proofs.Ballots.{Ballot, after, taken, after-later, Became, after-becomes, told-of, twice-weight, became-told, became-few}
 
-abbrev four : VoterSet
+abbrev pub four : VoterSet
 four = set.new (1 ∷ 2 ∷ 3 ∷ 4 ∷ []) (1 ∷ 1 ∷ 1 ∷ 1 ∷ []) .voters
 
-abbrev tree : BlockTable
+abbrev pub tree : BlockTable
 tree = blocks.add (blocks.add (blocks.add (blocks.add (blocks.opened 10 0) 11 10 .table) 12 11 .table) 13 11 .table) 14 12 .table
 
-abbrev stage : Frame
+abbrev pub stage : Frame
 stage = record { number = 7; voters = four; table = tree; base = 0 }
 
-abbrev vote : Phase → ℕ → ℕ → ℕ → Ballot
+abbrev pub vote : Phase → ℕ → ℕ → ℕ → Ballot
 vote phase signer target number = record { phase = phase; signer = signer; pair = record { target = target; number = number; signature = 0 } }
 
-abbrev votes : List Ballot
+abbrev pub votes : List Ballot
 votes =
     vote Prevote 1 12 2
     ∷ vote Prevote 2 12 2
@@ -78,7 +78,7 @@ votes =
 abbrev seconds : List Ballot
 seconds = vote Precommit 2 12 2 ∷ vote Precommit 4 13 2 ∷ []
 
-abbrev then : Held
+abbrev pub then : Held
 then = taken votes stage (opened-held 0)
 
 abbrev now : Held
@@ -88,7 +88,7 @@ abbrev says : Option ℕ → Option ℕ → Option ℕ → Bool → Told
 says g e f c = record { ghost = g; finalized = f; estimate = e; completable = c }
 
 -- what the definitions tell, and the weight of the equivocators
-computed : (told-of stage then ≡ says (some 2) (some 1) (some 1) true) × (told-of stage now ≡ says (some 2) (some 2) (some 2) false)
+pub computed : (told-of stage then ≡ says (some 2) (some 1) (some 1) true) × (told-of stage now ≡ says (some 2) (some 2) (some 2) false)
     × (twice-weight Prevote stage then ≡ 0) × (twice-weight Prevote stage now ≡ 0) × (twice-weight Precommit stage now ≡ 2)
 unfolding
     told told-from ghost-of highest-of first-of search-up finalized-of estimate-of completable-of below within sum all any taken import judge
@@ -96,41 +96,41 @@ unfolding
     is-tree are-distinct clear-at is-clear are-clear tabled blocks.opened append step blocks.add
 computed = (refl, refl, refl, refl, refl)
 
-totals : four .total ≡ 4
+pub totals : four .total ≡ 4
 unfolding set.new voters enter padded sum
 totals = refl
 
-opens : (new 7 four tree 10 .answer ≡ Yes) × (new 7 four tree 10 .round ≡ opened 7 four tree 0)
+pub opens : (new 7 four tree 10 .answer ≡ Yes) × (new 7 four tree 10 .round ≡ opened 7 four tree 0)
 unfolding
     new sound placed rising non-zero blank sum all any place-of columns.find columns.contains first set.new voters enter padded sized count-fits
     is-child is-tree are-distinct clear-at is-clear are-clear tabled blocks.opened append step blocks.add
 opens = (refl, refl)
 
 -- the rounds that the calls make
-abbrev start : Round
+abbrev pub start : Round
 start = new 7 four tree 10 .round
 
-abbrev earlier : Round
+abbrev pub earlier : Round
 earlier = after votes start
 
 abbrev later : Round
 later = after seconds earlier
 
-fits : four .total ≤ most
+pub fits : four .total ≤ most
 fits = omega (arith, totals)
 
-reached : Reached earlier
+pub reached : Reached earlier
 reached =
     record { number = 7; voters = four; table = tree; base = 10; fits = fits; opens = opens .0; calls = after-later start votes start here }
 
 calls : Later earlier later
 calls = after-later earlier seconds earlier here
 
-framed : frame start ≡ stage
+pub framed : frame start ≡ stage
 unfolding opened
 framed = ap frame (opens .1)
 
-was : Became votes stage (opened-held 0) earlier
+pub was : Became votes stage (opened-held 0) earlier
 was =
     after-becomes votes start stage (opened-held 0) (subst (λ (x : Frame). x .voters .total ≤ most) (sym framed) fits)
     (new-shaped 7 four tree 10 fits (opens .0)) framed (ap held (opens .1) ∙ opened-again 7 four tree 0)
@@ -140,7 +140,7 @@ is =
     after-becomes seconds earlier stage then (subst (λ (x : Frame). x .voters .total ≤ most) (sym (was .0)) fits) (keeps earlier reached) (was .0)
     (was .1)
 
-told-then : answers-of earlier ≡ says (some 2) (some 1) (some 1) true
+pub told-then : answers-of earlier ≡ says (some 2) (some 1) (some 1) true
 told-then = became-told earlier stage then (was .0) (was .1) reached (omega (arith, totals)) (omega (arith, computed .2)) ∙ computed .0
 
 told-now : answers-of later ≡ says (some 2) (some 2) (some 2) false

@@ -9,3 +9,4 @@ pub mod Weighing
 pub mod Lasting
 pub mod Ballots
 pub mod Beyond
+pub mod Judging

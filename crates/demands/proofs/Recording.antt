@@ -125,11 +125,11 @@ module _ (r : Round) (phase : Phase) (signer : ℕ) (p : Pair) where
   next d = apply (frame r) phase signer p (held r) d .held .votes
 
   -- by which rule a vote is counted
-  abbrev Counted-by : Type 0
+  abbrev pub Counted-by : Type 0
   Counted-by = (f : First-vote r phase signer) × (b : ℕ) × Stands (r .table) (p .target) b × (col (r .table .numbers) b ≡ p .number)
       × T (below (col (r .table .parents)) (r .graph .base) b)
 
-  counted-by : (a : ImportResult) → Rule r phase signer p a → a ≡ vote.Counted → Counted-by
+  pub counted-by : (a : ImportResult) → Rule r phase signer p a → a ≡ vote.Counted → Counted-by
   counted-by _ (refused n d) q = absurd (let z : _≡_ {A = ℕ} 0 1 = cc in omega arith)
   counted-by _ (stranger t f) q = absurd (let z : _≡_ {A = ℕ} 0 1 = cc in omega arith)
   counted-by _ (first f b s e h) q = (f, b, s, e, h)

@@ -178,9 +178,7 @@ module _ (r : Round) where
           steps = λ t. on-true (λ (x : Imported). x ≡ imported phase signer p r) (shaped r) _ _ t refl;
           keeps = λ fits t. import-shaped r fits t phase signer p;
         };
-        rule = rules r phase signer p;
-        records = vote-records r phase signer p;
-        equal = import-equal r phase signer p;
+        promised = record { rule = rules r phase signer p; records = vote-records r phase signer p; equal = import-equal r phase signer p };
       }
 
   pub ghost-changes :

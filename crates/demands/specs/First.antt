@@ -165,14 +165,17 @@ pub record Records (r : Round) (phase : Phase) (signer : ℕ) (p : Pair) (x : Im
       → recorded-of (x .round) phase k ≡ recorded.Equivocated (e .first) p
   pub others : (other : Phase) (k : ℕ) → (other ≡ phase → Voter-at r signer k → ⊥) → recorded-of (x .round) other k ≡ recorded-of r other k
 
--- a vote; one of a stranger, a duplicate and a third pair leave the round equal too (`Untaken`)
+-- the outcome of a vote: its rule gives the answer; a stranger, a duplicate and a third pair leave the round equal too (`Untaken`)
+pub record Promised (r : Round) (phase : Phase) (signer : ℕ) (p : Pair) (x : Imported) : Type 0 where
+  pub rule : (a : ImportResult) → (x .answer ≡ a) ↔ Rule r phase signer p a
+  pub records : Records r phase signer p x
+  pub equal : Untaken (x .answer) → x .round ≡ r
+
 pub record Takes (r : Round) (phase : Phase) (signer : ℕ) (p : Pair) : Type 0 where
   pub changes :
       Changes r (λ (x : Imported). by-vote (x .answer)) (λ (x : Imported). x .round) (Vote-due r phase signer p) (call.import-vote phase signer p r)
       (call.imported phase signer p r)
-  pub rule : (a : ImportResult) → (call.import-vote phase signer p r .answer ≡ a) ↔ Rule r phase signer p a
-  pub records : Records r phase signer p (call.import-vote phase signer p r)
-  pub equal : Untaken (call.import-vote phase signer p r .answer) → call.import-vote phase signer p r .round ≡ r
+  pub promised : Promised r phase signer p (call.import-vote phase signer p r)
 
 -- a list in a lent buffer
 pub record Lists (r : Round) (due : ℕ → Type 0) (out : List ℕ) (call step : Lent) : Type 0 where

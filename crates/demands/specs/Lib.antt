@@ -2,3 +2,4 @@ pub mod Refusals
 pub mod First
 pub mod Second
 pub mod Third
+pub mod Wrong
