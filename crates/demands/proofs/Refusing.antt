@@ -50,9 +50,11 @@ use Rattle.round.proofs.Steps.{graph-kept}
 use Rattle.round_laws.specs.Fits.{Fits, Marked}
 use Rattle.round_laws.proofs.Shaped.{shaped-kept, kept-shaped, shaped-marked}
 use Rattle.round_laws.proofs.Keeps.{on-true, new-shaped, import-shaped, add-shaped, ghost-shaped, index-shaped}
+use Rattle.round_laws.proofs.Lasting.{reached-shaped}
 use Rattle.round_laws.proofs.Refusals.{on-test, import-equal, add-equal, ghost-equal, index-equal}
 use Rattle.demands.specs.Refusals.{by-done, by-block, by-vote, by-told, by-number, by-whether, by-heard, by-primary, by-state}
-use Rattle.demands.specs.First.{Keeps, Breaks, Nine, New-due, voters-misshaped, table-misshaped, no-base, Block-due, misshaped, by-table, Changes, Takes, Opens, First}
+use Rattle.demands.specs.First.{Keeps, Breaks, Nine, New-due, voters-misshaped, table-misshaped, no-base, Block-due, misshaped, by-table, Changes, Takes, Opens, First, Reached-keeps}
+use Rattle.two_views.proofs.Called.{views-told}
 use Rattle.demands.proofs.Asking.{no-number, number-is, nine-exactly, reads, votes-lists, history-lists, final-lists, views-exactly}
 use Rattle.demands.proofs.Voting.{rules, vote-exactly}
 use Rattle.demands.proofs.Recording.{vote-records}
@@ -245,5 +247,9 @@ module _ (r : Round) where
         votes = λ phase out. votes-lists r out phase;
         historical-votes = history-lists r;
         finalizing-precommits = final-lists r;
-        two-views = views-exactly r;
+        two-views-refuses = views-exactly r;
+        views-differ = views-told r;
       }
+
+pub reached-keeps : Reached-keeps
+reached-keeps = reached-shaped

@@ -15,6 +15,7 @@ use Rattle.weights.specs.Weights.{most}
 use Rattle.loops.specs.Sum.{weigh}
 use Rattle.grandpa.specs.Tree.{below}
 use Rattle.grandpa.specs.Vote as meant
+use Rattle.grandpa.specs.Views.{two-views}
 use Rattle.voter_set.specs.declared.VoterSet.{VoterSet}
 use Rattle.voter_set.specs.Good.{good}
 use Rattle.voter_set.specs.Lookup.{nth-mod}
@@ -55,7 +56,8 @@ use Rattle.round.specs.Shape.{frame, held, shaped}
 use Rattle.round.specs.Calls as call
 use Rattle.round.specs.Ask as ask
 use Rattle.round_laws.specs.Fits.{Fits, Marked}
-use Rattle.round_laws.specs.Later.{voters-of, votes-of}
+use Rattle.round_laws.specs.Later.{Reached, voters-of, votes-of}
+use Rattle.two_views.specs.declared.Views.the-variants.{Weight}
 use Rattle.two_views.specs.Views as views
 use Rattle.two_views.specs.One.{One}
 use Rattle.demands.specs.Refusals.{by-done, by-block, by-vote, by-told, by-number, by-whether, by-heard, by-primary, by-state, by-list, by-views}
@@ -240,4 +242,12 @@ pub record First (r : Round) : Type 0 where
       (ask.records (front (r .history .count) (r .history .entries)) (r .context .voters) (r .table) (r .votes) out)
   pub finalizing-precommits : (out : List ℕ)
       → Lists r (Finalizing-due r out) out (ask.finalizing-precommits r out) (ask.finalizing r out (r .answers .finalized))
-  pub two-views : (other : Round) → Exactly (by-views (views.views r other)) (Views-due r other)
+  pub two-views-refuses : (other : Round) → Exactly (by-views (views.views r other)) (Views-due r other)
+  -- by ids, of the two views that are not refused
+  pub views-differ : (other : Round) → Keeps r → Keeps other → One r other
+      → views.views r other
+      ≡ Weight (two-views (views.voters r) (λ p. views.by-id (r .table .ids) (views.precommits r p)) (λ p. views.by-id (other .table .ids) (views.precommits other p)))
+
+-- and every reached round keeps the shape rules
+abbrev pub Reached-keeps : Type 0
+Reached-keeps = (r : Round) → Reached r → Keeps r
