@@ -55,7 +55,7 @@ use Rattle.round.specs.Ask as ask
 use Rattle.round_laws.specs.Later.{Later, here, Reached, voters-of, blocks-of, votes-of, answers-of}
 use Rattle.round_laws.proofs.Lasting.{later-arrived, later-frame, later-blocks, later-votes, reached-fits, reached-state, reached-later, answers-stay}
 use Rattle.demands.specs.Second.{Weighs, Few, shown, meant}
-use Rattle.demands.specs.Third.{Below, Stays, Third}
+use Rattle.demands.specs.Third.{Below, Stays, Third, Demand-3}
 use Rattle.demands.proofs.Asking.{no-number}
 use Rattle.demands.proofs.Shown.{ghost-shown, finalized-shown, estimate-shown, completable-yes}
 use Rattle.demands.proofs.Meant.{keeps, kept, whole, told-meant}
@@ -318,9 +318,12 @@ module _ (r : Round) (reached : Reached r) (s : Round) (later : Later r s) where
           blocks = blocks-stay;
         }
 
-  pub demand-3 : Third r s
-  demand-3 = go (ℕ-discrete (r .context .voters .total) 0)
+  lasts : Third r s
+  lasts = go (ℕ-discrete (r .context .voters .total) 0)
     where
       go : Dec (r .context .voters .total ≡ 0) → Third r s
       go (yes e) = third-silent e
       go (no n) = third-weighed (omega arith)
+
+pub demand-3 : Demand-3
+demand-3 = lasts

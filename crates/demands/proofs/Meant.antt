@@ -28,7 +28,7 @@ use Rattle.round_laws.specs.Later.{Reached, voters-of, blocks-of, votes-of, ans
 use Rattle.round_laws.proofs.Shaped.{shaped-kept}
 use Rattle.round_laws.proofs.Lasting.{reached-shaped, reached-fits, answers-meant}
 use Rattle.demands.specs.First.{Keeps}
-use Rattle.demands.specs.Second.{Weighs, Few, shown, meant, Is-ghost, Is-finalized, Is-estimate, Is-completable, Is-completable-noded, Second}
+use Rattle.demands.specs.Second.{Weighs, Few, shown, meant, Is-ghost, Is-finalized, Is-estimate, Is-completable, Is-completable-noded, Second, Demand-2}
 use Rattle.demands.proofs.Shown.{ghost-shown, finalized-shown, estimate-shown, completable-shown, completable-yes, state-shown}
 
 -- what is told from the one block of which P holds
@@ -136,8 +136,8 @@ module _ (r : Round) (reached : Reached r) where
     noded : (ask.completable r ≡ whether.Yes) ↔ Is-completable-noded r
     noded = ((λ e. said .3 .0 (completable-yes r keeps .0 e)), λ c. completable-yes r keeps .1 (said .3 .1 c))
 
-    pub demand-2 : Second r
-    demand-2 =
+    answers : Second r
+    answers =
         record {
           ghost = record {
             block = answers-of r .ghost;
@@ -180,3 +180,6 @@ module _ (r : Round) (reached : Reached r) where
               );
           computed = told-meant;
         }
+
+pub demand-2 : Demand-2
+demand-2 = answers

@@ -53,7 +53,7 @@ use Rattle.round_laws.proofs.Keeps.{on-true, new-shaped, import-shaped, add-sha
 use Rattle.round_laws.proofs.Lasting.{reached-shaped}
 use Rattle.round_laws.proofs.Refusals.{on-test, import-equal, add-equal, ghost-equal, index-equal}
 use Rattle.demands.specs.Refusals.{by-done, by-block, by-vote, by-told, by-number, by-whether, by-heard, by-primary, by-state}
-use Rattle.demands.specs.First.{Keeps, Breaks, Nine, New-due, voters-misshaped, table-misshaped, no-base, Block-due, misshaped, by-table, Changes, Takes, Opens, First, Reached-keeps}
+use Rattle.demands.specs.First.{Keeps, Breaks, Nine, New-due, voters-misshaped, table-misshaped, no-base, Block-due, misshaped, by-table, Changes, Takes, Opens, First, Reached-keeps, Demand-1}
 use Rattle.two_views.proofs.Called.{views-told}
 use Rattle.demands.proofs.Asking.{no-number, number-is, nine-exactly, reads, votes-lists, history-lists, final-lists, views-exactly}
 use Rattle.demands.proofs.Voting.{rules, vote-exactly}
@@ -218,9 +218,9 @@ module _ (r : Round) where
   primary-quiet (nth.Place id info) = refl
   primary-quiet nth.Beyond = refl
 
-  pub demand-1 : First r
+  calls : First r
   unfolding ask.number ask.threshold ask.prevoted-index ask.precommitted-index ask.completable ask.estimate ask.finalized ask.base ask.prevote-participation ask.precommit-participation ask.primary-voter ask.state ask.voters
-  demand-1 =
+  calls =
       record {
         new = new-opens;
         is-round = is-round-means;
@@ -250,6 +250,9 @@ module _ (r : Round) where
         two-views-refuses = views-exactly r;
         views-differ = views-told r;
       }
+
+pub demand-1 : Demand-1
+demand-1 = calls
 
 pub reached-keeps : Reached-keeps
 reached-keeps = reached-shaped

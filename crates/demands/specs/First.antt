@@ -251,3 +251,6 @@ pub record First (r : Round) : Type 0 where
 -- and every reached round keeps the shape rules
 abbrev pub Reached-keeps : Type 0
 Reached-keeps = (r : Round) → Reached r → Keeps r
+
+abbrev pub Demand-1 : Type 0
+Demand-1 = (r : Round) → First r

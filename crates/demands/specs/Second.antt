@@ -104,6 +104,9 @@ pub record Second (r : Round) : Type 0 where
   -- the same in one equation, with the functions that compute the definitions
   pub computed : answers-of r ≡ meant r
 
+abbrev pub Demand-2 : Type 0
+Demand-2 = (r : Round) → Reached r → Weighs r → Few Prevote r → Second r
+
 -- a round opened on a set that `VoterSet::new` made weighs something
 abbrev pub Made-weighs : Type 0
 Made-weighs = (r : Round) (reached : Reached r) (ids weights : List ℕ) → set.new ids weights .answer ≡ Made

@@ -52,6 +52,9 @@ pub record Third (r s : Round) : Type 0 where
   pub blocks : (id b : ℕ) → Stands (r .table) id b
       → Stands (s .table) id b × (col (s .table .numbers) b ≡ col (r .table .numbers) b) × (col (s .table .parents) b ≡ col (r .table .parents) b)
 
+abbrev pub Demand-3 : Type 0
+Demand-3 = (r : Round) → Reached r → (s : Round) → Later r s → Third r s
+
 -- the premise of the two is needed: with precommit equivocators above F a completable round may stop being so, and its estimate may move
 -- away from the base
 pub record Beyond : Type 0 where
