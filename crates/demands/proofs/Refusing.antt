@@ -11,6 +11,7 @@ use Rattle.voter_set.specs.declared.Nth.{Nth}
 use Rattle.voter_set.specs.declared.Nth.the-variants as nth
 use Rattle.voter_set.specs.Good.{good}
 use Rattle.voter_set.specs.Lookup.{nth-mod}
+use Rattle.voter_laws.proofs.Goods.{good-means, means-good}
 use Rattle.blocks.specs.declared.BlockTable.{BlockTable}
 use Rattle.blocks.specs.declared.Place.{Place}
 use Rattle.blocks.specs.declared.Place.the-variants as place
@@ -132,6 +133,8 @@ module _ (number : ℕ) (voters : VoterSet) (table : BlockTable) (base : ℕ) wh
         beside = λ n q. new-refusal n q .1;
         steps = λ s t b w. rw (s, true-T (tabled table) t, stands-found table (tabled-shaped table t) base b w);
         keeps = λ fits q. new-shaped number voters table base fits q;
+        voters-rules = (good-means voters, means-good voters);
+        table-rules = (tabled-shaped table, shaped-tabled table);
       }
 
 module _ (r : Round) where

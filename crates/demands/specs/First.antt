@@ -9,7 +9,7 @@ use mathlib.Core.Path.{_≡_}
 use mathlib.Core.Logic.{_≢_, _↔_}
 use Prim.Native.Nat.{ℕ, _*_, _≤_, _<_}
 use lib.Dec.{T}
-use lib.ListN.{length, getD}
+use lib.ListN.{length, getD, drop}
 use Rattle.loops.specs.Listing.{front}
 use Rattle.weights.specs.Weights.{most}
 use Rattle.loops.specs.Sum.{weigh}
@@ -17,13 +17,13 @@ use Rattle.grandpa.specs.Tree.{below}
 use Rattle.grandpa.specs.Vote as meant
 use Rattle.grandpa.specs.Views.{two-views}
 use Rattle.voter_set.specs.declared.VoterSet.{VoterSet}
-use Rattle.voter_set.specs.Good.{good}
+use Rattle.voter_set.specs.Good.{good, Good}
 use Rattle.voter_set.specs.Lookup.{nth-mod}
 use Rattle.blocks.specs.declared.BlockTable.{BlockTable}
 use Rattle.blocks.specs.declared.Answer.the-variants as block
 use Rattle.blocks.specs.Table.{Stands, Absent}
 use Rattle.blocks.specs.Add as table
-use Rattle.block_shape.specs.Shape.{tabled}
+use Rattle.block_shape.specs.Shape.{tabled, Shaped}
 use Rattle.block_table.specs.Add.{Due}
 use Rattle.context.specs.declared.Phase.{Phase}
 use Rattle.context.specs.declared.Phase.the-variants.{Prevote, Precommit}
@@ -39,6 +39,7 @@ use Rattle.judging.specs.declared.Equivocation.{Equivocation}
 use Rattle.judging.specs.declared.ImportResult.{ImportResult}
 use Rattle.judging.specs.declared.ImportResult.the-variants as vote
 use Rattle.listing.specs.declared.Wanted.the-variants as wanted
+use Rattle.listing.specs.declared.Written.the-variants as list
 use Rattle.listing.specs.Written.{Lent}
 use Rattle.held_laws.specs.Kept.{Kept, Untaken}
 use Rattle.round.specs.declared.Round.{Round}
@@ -179,19 +180,22 @@ pub record Takes (r : Round) (phase : Phase) (signer : ℕ) (p : Pair) : Type 0 
       (call.imported phase signer p r)
   pub promised : Promised r phase signer p (call.import-vote phase signer p r)
 
--- a list in a lent buffer
+-- a list in a lent buffer: what stands after the last record stays
 pub record Lists (r : Round) (due : ℕ → Type 0) (out : List ℕ) (call step : Lent) : Type 0 where
   pub refuses : Exactly (by-list (call .answer)) due
   pub untouched : (n : ℕ) → by-list (call .answer) ≡ some n → call .bytes ≡ out
+  pub rest : (n : ℕ) → call .answer ≡ list.Bytes n → drop n (call .bytes) ≡ drop n out
   pub steps : Keeps r → call ≡ step
 
--- a new round; beside a refusal stands one that every call refuses
+-- a new round; beside a refusal stands one that every call refuses. The last two are the shape rules of voters and blocks as facts
 pub record Opens (number : ℕ) (voters : VoterSet) (table : BlockTable) (base : ℕ) : Type 0 where
   pub refuses : Exactly (by-done (call.new number voters table base .answer)) (New-due voters table base)
   pub beside : (n : ℕ) → by-done (call.new number voters table base .answer) ≡ some n → Breaks (call.new number voters table base .round)
   pub steps : good voters ≡ true → T (tabled table) → (b : ℕ) → Stands table base b
       → call.new number voters table base ≡ record { answer = done.Yes; round = call.opened number voters table b }
   pub keeps : voters .total ≤ most → call.new number voters table base .answer ≡ done.Yes → Keeps (call.new number voters table base .round)
+  pub voters-rules : (good voters ≡ true) ↔ Good voters
+  pub table-rules : T (tabled table) ↔ Shaped table
 
 -- heard weight and voters heard: of those with a recorded vote, each once
 abbrev pub heard-weight : Round → Phase → ℕ
