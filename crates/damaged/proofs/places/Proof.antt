@@ -1,0 +1,68 @@
+use borrow.Author.Needs.{needs}
+use Prim.Native.Nat.{_-_, _≤_}
+use Rattle.damaged.proofs.places.Statement.{statement}
+use Rattle.damaged.proofs.places.Tie as tie
+use Rattle.damaged.proofs.places.Reads as reads
+use Rattle.damaged.proofs.places.Lts as lts
+use Rattle.damaged.proofs.both.Reads as both-reads
+use Rattle.damaged.proofs.flat.after.Reads as after-reads
+use Rattle.damaged.proofs.none.Reads as none-reads
+use Rattle.damaged.proofs.place.Reads as place-reads
+
+abbrev Inv-loop : tie.InvT-loop
+Inv-loop good start count kind sums₀ k₀ sums k = k ≤ count
+
+abbrev μ-loop : tie.MeasureT-loop
+μ-loop good start count kind sums₀ k₀ sums k = count - k
+
+-- src/main.rt:115:9
+none-requires : tie.Need-none-requires Inv-loop μ-loop
+none-requires c κs = search needs
+
+-- src/main.rt:116:5
+loop-holds : tie.Need-loop-holds Inv-loop μ-loop
+loop-holds c = search needs
+
+-- src/main.rt:117:32
+after-requires : tie.Need-after-requires Inv-loop μ-loop
+after-requires c κs = search needs
+
+-- src/main.rt:117:13
+place-requires : tie.Need-place-requires Inv-loop μ-loop
+place-requires c κs = search needs
+
+-- src/main.rt:118:13
+both-requires : tie.Need-both-requires Inv-loop μ-loop
+both-requires c κs = search needs
+
+-- src/main.rt:116:9
+add-k : tie.Need-add-k Inv-loop μ-loop
+add-k c = search needs
+
+-- src/main.rt:116:5
+loop-less : tie.Need-loop-less Inv-loop μ-loop
+loop-less c = search needs
+
+-- src/main.rt:116:5
+loop-again : tie.Need-loop-again Inv-loop μ-loop
+loop-again c = search needs
+
+-- src/main.rt:114:1
+returns : tie.Need-returns Inv-loop μ-loop
+returns c = search needs
+
+pub places-spec : {M : Type 1} → statement M
+places-spec =
+    tie.close
+    (tie.spec
+    Inv-loop
+    μ-loop
+    none-requires
+    loop-holds
+    after-requires
+    place-requires
+    both-requires
+    add-k
+    loop-less
+    loop-again
+    returns)
