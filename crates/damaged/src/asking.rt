@@ -1,8 +1,8 @@
 // Every call on a round, counted by whether it answers 9. The arguments are such that an undamaged round refuses none of them with 9.
-ghost use Prim.Native.Nat.{_≤_};
 use crate::flat;
 use crate::flat::SIZE;
 use blocks::Answer;
+use context::Phase;
 use judging::ImportResult;
 use listing::Written;
 use round::Answered;
@@ -25,108 +25,84 @@ pub struct Tally {
     pub changed: u64,
 }
 
-fn is_nine(n: u8) -> u64
-    ensures { λ r. ⌜ r ≤ 1 ⌝ }
-{
+fn is_nine(n: u8) -> u64 {
     if n == 9 {
         return 1;
     }
     0
 }
 
-fn of_done(answer: Done) -> u64
-    ensures { λ r. ⌜ r ≤ 1 ⌝ }
-{
+fn of_done(answer: Done) -> u64 {
     match answer {
         Done::Yes => 0,
         Done::Refused(n) => is_nine(n),
     }
 }
 
-fn of_grown(answer: Answer) -> u64
-    ensures { λ r. ⌜ r ≤ 1 ⌝ }
-{
+fn of_grown(answer: Answer) -> u64 {
     match answer {
         Answer::Placed(place) => 0,
         Answer::Refused(n) => is_nine(n),
     }
 }
 
-fn of_import(answer: ImportResult) -> u64
-    ensures { λ r. ⌜ r ≤ 1 ⌝ }
-{
+fn of_import(answer: ImportResult) -> u64 {
     let ImportResult::Refused(n) = answer else {
         return 0;
     };
     is_nine(n)
 }
 
-fn of_told(answer: Told) -> u64
-    ensures { λ r. ⌜ r ≤ 1 ⌝ }
-{
+fn of_told(answer: Told) -> u64 {
     let Told::Refused(n) = answer else {
         return 0;
     };
     is_nine(n)
 }
 
-fn of_number(answer: Number) -> u64
-    ensures { λ r. ⌜ r ≤ 1 ⌝ }
-{
+fn of_number(answer: Number) -> u64 {
     let Number::Refused(n) = answer else {
         return 0;
     };
     is_nine(n)
 }
 
-fn of_whether(answer: Whether) -> u64
-    ensures { λ r. ⌜ r ≤ 1 ⌝ }
-{
+fn of_whether(answer: Whether) -> u64 {
     let Whether::Refused(n) = answer else {
         return 0;
     };
     is_nine(n)
 }
 
-fn of_participation(answer: Participation) -> u64
-    ensures { λ r. ⌜ r ≤ 1 ⌝ }
-{
+fn of_participation(answer: Participation) -> u64 {
     let Participation::Refused(n) = answer else {
         return 0;
     };
     is_nine(n)
 }
 
-fn of_primary(answer: Primary) -> u64
-    ensures { λ r. ⌜ r ≤ 1 ⌝ }
-{
+fn of_primary(answer: Primary) -> u64 {
     let Primary::Refused(n) = answer else {
         return 0;
     };
     is_nine(n)
 }
 
-fn of_state(answer: Answered) -> u64
-    ensures { λ r. ⌜ r ≤ 1 ⌝ }
-{
+fn of_state(answer: Answered) -> u64 {
     let Answered::Refused(n) = answer else {
         return 0;
     };
     is_nine(n)
 }
 
-fn of_written(answer: Written) -> u64
-    ensures { λ r. ⌜ r ≤ 1 ⌝ }
-{
+fn of_written(answer: Written) -> u64 {
     let Written::Refused(n) = answer else {
         return 0;
     };
     is_nine(n)
 }
 
-fn of_views(answer: Views) -> u64
-    ensures { λ r. ⌜ r ≤ 1 ⌝ }
-{
+fn of_views(answer: Views) -> u64 {
     let Views::Refused(n) = answer else {
         return 0;
     };
@@ -134,58 +110,52 @@ fn of_views(answer: Views) -> u64
 }
 
 // `is_round` says no where the others say 9.
-fn of_test(answer: bool) -> u64
-    ensures { λ r. ⌜ r ≤ 1 ⌝ }
-{
+fn of_test(answer: bool) -> u64 {
     if answer {
         return 0;
     }
     1
 }
 
-// number, threshold, prevoted_index, precommitted_index
-fn of_numbers(round: Round) -> u64
-    ensures { λ r. ⌜ r ≤ 4 ⌝ }
-{
-    let number = of_number(round.number());
-    let threshold = of_number(round.threshold());
-    let prevoted = of_number(round.prevoted_index());
-    let precommitted = of_number(round.precommitted_index());
-    number + threshold + prevoted + precommitted
+// Sums that cannot wrap, written so that nobody has to show it.
+pub fn plus(a: u64, b: u64) -> u64 {
+    std::num::wrapping_add_u64(a, b)
 }
 
-// estimate, finalized, base, completable, state
-fn of_blocks(round: Round) -> u64
-    ensures { λ r. ⌜ r ≤ 5 ⌝ }
-{
-    let estimate = of_told(round.estimate());
-    let finalized = of_told(round.finalized());
-    let base = of_told(round.base());
-    let completable = of_whether(round.completable());
-    let state = of_state(round.state());
-    estimate + finalized + base + completable + state
+fn of_numbers(round: Round) -> u64 {
+    let indices = plus(
+        of_number(round.prevoted_index()),
+        of_number(round.precommitted_index()),
+    );
+    plus(
+        indices,
+        plus(of_number(round.number()), of_number(round.threshold())),
+    )
 }
 
-// is_round, prevote_participation, precommit_participation, primary_voter, voters
-fn of_voters(round: Round) -> u64
-    ensures { λ r. ⌜ r ≤ 5 ⌝ }
-{
-    let test = of_test(round.is_round());
-    let prevote = of_participation(round.prevote_participation());
-    let precommit = of_participation(round.precommit_participation());
-    let primary = of_primary(round.primary_voter());
+fn of_blocks(round: Round) -> u64 {
+    let told = plus(of_told(round.estimate()), of_told(round.finalized()));
+    let told = plus(told, of_told(round.base()));
+    plus(
+        told,
+        plus(of_whether(round.completable()), of_state(round.state())),
+    )
+}
+
+fn of_voters(round: Round) -> u64 {
     let held = round.voters();
     let answer = held.answer;
-    test + prevote + precommit + primary + of_done(answer)
+    let first = plus(of_done(answer), of_primary(round.primary_voter()));
+    let prevotes = of_participation(round.prevote_participation());
+    let precommits = of_participation(round.precommit_participation());
+    plus(first, plus(prevotes, precommits))
 }
 
-// two_views, on either side
-fn of_pairs(round: Round, good: Round) -> u64
-    ensures { λ r. ⌜ r ≤ 2 ⌝ }
-{
+// `is_round` and `two_views`, with the round on either side.
+fn of_tests(round: Round, good: Round) -> u64 {
     let one = of_views(two_views::two_views(round, good));
     let other = of_views(two_views::two_views(good, round));
-    one + other
+    plus(of_test(round.is_round()), plus(one, other))
 }
 
 // Whether a round that was handed back is another than the one of these words.
@@ -197,72 +167,67 @@ fn moved(words: &[u64; SIZE], after: Round) -> u64 {
     1
 }
 
-fn added(round: Round, words: &[u64; SIZE]) -> Tally {
+// A call's nine, and the round that it handed back.
+struct Back {
+    nine: u64,
+    round: Round,
+}
+
+fn imported(round: Round, phase: Phase) -> Back {
+    let pair = Pair {
+        target: 12,
+        number: 2,
+        signature: 8,
+    };
+    let made = match phase {
+        Phase::Prevote => round.import_prevote(2, pair),
+        Phase::Precommit => round.import_precommit(2, pair),
+    };
+    let answer = made.answer;
+    let after = made.round;
+    Back {
+        nine: of_import(answer),
+        round: after,
+    }
+}
+
+fn marked(round: Round, phase: Phase) -> Back {
+    let made = match phase {
+        Phase::Prevote => round.set_prevoted_index(),
+        Phase::Precommit => round.set_precommitted_index(),
+    };
+    let answer = made.answer;
+    let after = made.round;
+    Back {
+        nine: of_done(answer),
+        round: after,
+    }
+}
+
+fn added(round: Round) -> Back {
     let made = round.add_block(77, 10);
     let answer = made.answer;
     let after = made.round;
-    Tally {
-        nines: of_grown(answer),
-        changed: moved(words, after),
+    Back {
+        nine: of_grown(answer),
+        round: after,
     }
 }
 
-fn prevoted(round: Round, words: &[u64; SIZE]) -> Tally {
-    let pair = Pair {
-        target: 12,
-        number: 2,
-        signature: 8,
-    };
-    let made = round.import_prevote(2, pair);
-    let answer = made.answer;
-    let after = made.round;
-    Tally {
-        nines: of_import(answer),
-        changed: moved(words, after),
-    }
-}
-
-fn precommitted(round: Round, words: &[u64; SIZE]) -> Tally {
-    let pair = Pair {
-        target: 12,
-        number: 2,
-        signature: 8,
-    };
-    let made = round.import_precommit(2, pair);
-    let answer = made.answer;
-    let after = made.round;
-    Tally {
-        nines: of_import(answer),
-        changed: moved(words, after),
-    }
-}
-
-fn sought(round: Round, words: &[u64; SIZE]) -> Tally {
+fn sought(round: Round) -> Back {
     let made = round.precommit_ghost();
     let answer = made.answer;
     let after = made.round;
-    Tally {
-        nines: of_told(answer),
-        changed: moved(words, after),
+    Back {
+        nine: of_told(answer),
+        round: after,
     }
 }
 
-fn marked_prevoted(round: Round, words: &[u64; SIZE]) -> Tally {
-    let made = round.set_prevoted_index();
-    let answer = made.answer;
-    let after = made.round;
+fn counted(back: Back, words: &[u64; SIZE]) -> Tally {
+    let after = back.round;
     Tally {
-        nines: of_done(answer),
-        changed: moved(words, after),
-    }
-}
-
-fn marked_precommitted(round: Round, words: &[u64; SIZE]) -> Tally {
-    let made = round.set_precommitted_index();
-    let answer = made.answer;
-    let after = made.round;
-    Tally {
-        nines: of_done(answer),
+        nines: back.nine,
         changed: moved(words, after),
     }
 }
@@ -271,8 +236,8 @@ fn marked_precommitted(round: Round, words: &[u64; SIZE]) -> Tally {
 const ROOM: usize = 5632;
 
 // Whether a lent buffer no longer has what was put there.
-fn spoiled(out: &[u8]) -> u64 {
-    for k in 0..out.len() {
+fn spoiled(out: &[u8; ROOM]) -> u64 {
+    for k in 0..ROOM {
         if out[k] != 165 {
             return 1;
         }
@@ -280,45 +245,18 @@ fn spoiled(out: &[u8]) -> u64 {
     0
 }
 
-fn wrote_prevotes(round: Round) -> Tally {
+fn written(round: Round, list: u8) -> Tally {
     let mut out = [165u8; ROOM];
-    let answer = round.prevotes(&mut out);
+    let answer = match list {
+        0 => round.prevotes(&mut out),
+        1 => round.precommits(&mut out),
+        2 => round.historical_votes(&mut out),
+        _ => round.finalizing_precommits(&mut out),
+    };
     Tally {
         nines: of_written(answer),
         changed: spoiled(&out),
     }
-}
-
-fn wrote_precommits(round: Round) -> Tally {
-    let mut out = [165u8; ROOM];
-    let answer = round.precommits(&mut out);
-    Tally {
-        nines: of_written(answer),
-        changed: spoiled(&out),
-    }
-}
-
-fn wrote_history(round: Round) -> Tally {
-    let mut out = [165u8; ROOM];
-    let answer = round.historical_votes(&mut out);
-    Tally {
-        nines: of_written(answer),
-        changed: spoiled(&out),
-    }
-}
-
-fn wrote_finalizing(round: Round) -> Tally {
-    let mut out = [165u8; ROOM];
-    let answer = round.finalizing_precommits(&mut out);
-    Tally {
-        nines: of_written(answer),
-        changed: spoiled(&out),
-    }
-}
-
-// Sums that cannot wrap, written so that nobody has to show it.
-pub fn plus(a: u64, b: u64) -> u64 {
-    std::num::wrapping_add_u64(a, b)
 }
 
 fn both(one: Tally, other: Tally) -> Tally {
@@ -330,43 +268,33 @@ fn both(one: Tally, other: Tally) -> Tally {
 
 // The six calls that hand a round back.
 fn of_steps(round: Round, words: &[u64; SIZE]) -> Tally {
-    let votes = both(prevoted(round, words), precommitted(round, words));
-    let marks = both(
-        marked_prevoted(round, words),
-        marked_precommitted(round, words),
-    );
-    let rest = both(added(round, words), sought(round, words));
+    let prevote = counted(imported(round, Phase::Prevote), words);
+    let votes = both(prevote, counted(imported(round, Phase::Precommit), words));
+    let prevote = counted(marked(round, Phase::Prevote), words);
+    let marks = both(prevote, counted(marked(round, Phase::Precommit), words));
+    let rest = both(counted(added(round), words), counted(sought(round), words));
     both(both(votes, marks), rest)
 }
 
 // The four calls that are lent a buffer.
 fn of_lists(round: Round) -> Tally {
-    let votes = both(wrote_prevotes(round), wrote_precommits(round));
-    let rest = both(wrote_history(round), wrote_finalizing(round));
-    both(votes, rest)
-}
-
-// The calls that only answer.
-fn of_reads(round: Round, good: Round) -> Tally {
-    let reads = of_numbers(round) + of_blocks(round) + of_voters(round) + of_pairs(round, good);
-    Tally {
-        nines: reads,
-        changed: 0,
-    }
+    let votes = both(written(round, 0), written(round, 1));
+    both(votes, both(written(round, 2), written(round, 3)))
 }
 
 // All calls on a round of these words.
 pub fn asked(round: Round, words: &[u64; SIZE], good: Round) -> Tally {
-    both(
-        both(of_steps(round, words), of_lists(round)),
-        of_reads(round, good),
-    )
+    let told = plus(of_numbers(round), of_blocks(round));
+    let tested = plus(of_voters(round), of_tests(round, good));
+    let reads = Tally {
+        nines: plus(told, tested),
+        changed: 0,
+    };
+    both(reads, both(of_steps(round, words), of_lists(round)))
 }
 
 // `new` on the voters and the table of a round.
-pub fn opened(round: Round, base: u32) -> u64
-    ensures { λ r. ⌜ r ≤ 1 ⌝ }
-{
+pub fn opened(round: Round, base: u32) -> u64 {
     let context = round.context;
     let voters = context.voters;
     let table = round.table;

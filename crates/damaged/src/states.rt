@@ -1,29 +1,37 @@
 // Rounds made by calls: an opened one, document 01's case J, J with an equivocation, and one of 64 voters on 50 blocks.
 use block_table;
+use context::Phase;
 use round::Round;
 use tracker::Pair;
 use voter_set::VoterSet;
 
-fn prevoted(round: Round, signer: u32, target: u32, number: u32, signature: u64) -> Round {
+fn voted(
+    round: Round,
+    phase: Phase,
+    signer: u32,
+    target: u32,
+    number: u32,
+    signature: u64,
+) -> Round {
     let pair = Pair {
         target,
         number,
         signature,
     };
-    let made = round.import_prevote(signer, pair);
+    let made = match phase {
+        Phase::Prevote => round.import_prevote(signer, pair),
+        Phase::Precommit => round.import_precommit(signer, pair),
+    };
     let after = made.round;
     after
 }
 
+fn prevoted(round: Round, signer: u32, target: u32) -> Round {
+    voted(round, Phase::Prevote, signer, target, 2, 0)
+}
+
 fn precommitted(round: Round, signer: u32, target: u32, number: u32, signature: u64) -> Round {
-    let pair = Pair {
-        target,
-        number,
-        signature,
-    };
-    let made = round.import_precommit(signer, pair);
-    let after = made.round;
-    after
+    voted(round, Phase::Precommit, signer, target, number, signature)
 }
 
 fn grown(round: Round, id: u32, parent: u32) -> Round {
@@ -47,8 +55,8 @@ pub fn opened() -> Round {
 pub fn case_j() -> Round {
     let round = grown(opened(), 11, 10);
     let round = grown(grown(round, 12, 11), 13, 11);
-    let round = prevoted(prevoted(round, 1, 12, 2, 0), 2, 12, 2, 0);
-    let round = prevoted(prevoted(round, 3, 13, 2, 0), 4, 12, 2, 0);
+    let round = prevoted(prevoted(round, 1, 12), 2, 12);
+    let round = prevoted(prevoted(round, 3, 13), 4, 12);
     let round = precommitted(precommitted(round, 1, 12, 2, 0), 2, 12, 2, 0);
     precommitted(round, 3, 11, 1, 0)
 }
@@ -124,70 +132,66 @@ fn many_blocks(from: Round, start: usize, end: usize) -> Round {
     round
 }
 
-// A voter's prevote: none by every sixteenth, two by three of them.
-fn with_prevote(round: Round, voter: usize) -> Round {
-    if voter % 16 == 15 {
+// Some voters are silent in a phase; the others vote for places along the line and beside it.
+fn is_silent(voter: usize, phase: Phase) -> bool {
+    match phase {
+        Phase::Prevote => voter % 16 == 15,
+        Phase::Precommit => voter % 8 == 7,
+    }
+}
+
+fn target_of(voter: usize, phase: Phase) -> usize {
+    match phase {
+        Phase::Prevote => 5 + 3 * (voter % 64 * 5 % 14) + voter / 2 % 2,
+        Phase::Precommit => 5 + 3 * (voter % 64 * 3 % 8) + voter / 2 % 2,
+    }
+}
+
+fn with_vote(round: Round, phase: Phase, voter: usize) -> Round {
+    if is_silent(voter, phase) {
         return round;
     }
-    let place = 5 + 3 * (voter % 64 * 5 % 14) + voter / 2 % 2;
-    prevoted(
+    let place = target_of(voter, phase);
+    let signature = 100 + (voter % 64) as u64;
+    voted(
         round,
+        phase,
         signer_of(voter),
         id_of(place),
         number_of(place),
-        100 + (voter % 64) as u64,
+        signature,
     )
 }
 
-fn with_precommit(round: Round, voter: usize) -> Round {
-    if voter % 8 == 7 {
-        return round;
-    }
-    let place = 5 + 3 * (voter % 64 * 3 % 8) + voter / 2 % 2;
-    precommitted(
-        round,
-        signer_of(voter),
-        id_of(place),
-        number_of(place),
-        300 + (voter % 64) as u64,
-    )
-}
-
-fn many_prevotes(from: Round) -> Round {
+fn many_votes(from: Round, phase: Phase) -> Round {
     let mut round = from;
     for voter in 0..64 {
-        let next = with_prevote(round, voter);
+        let next = with_vote(round, phase, voter);
         round = next;
     }
     round
 }
 
-fn many_precommits(from: Round) -> Round {
-    let mut round = from;
-    for voter in 0..64 {
-        let next = with_precommit(round, voter);
-        round = next;
-    }
-    round
-}
-
-// Three equivocators a phase; a second target is not looked up.
-fn more_prevotes(round: Round) -> Round {
-    let round = prevoted(round, signer_of(4), 9004, 4, 74);
-    let round = prevoted(round, signer_of(24), 9024, 24, 94);
-    prevoted(round, signer_of(44), 9044, 44, 114)
-}
-
-fn more_precommits(round: Round) -> Round {
-    let round = precommitted(round, signer_of(5), 9005, 5, 75);
-    let round = precommitted(round, signer_of(25), 9025, 25, 95);
-    precommitted(round, signer_of(45), 9045, 45, 115)
+// A second pair; its target is not looked up.
+fn again(round: Round, phase: Phase, voter: u32) -> Round {
+    let k = voter % 64;
+    voted(
+        round,
+        phase,
+        signer_of(k as usize),
+        9000 + k,
+        k,
+        70 + k as u64,
+    )
 }
 
 pub fn many() -> Round {
-    let kept = more_prevotes(many_prevotes(many_opened())).set_prevoted_index();
-    let round = kept.round;
-    let kept = more_precommits(many_precommits(round)).set_precommitted_index();
+    let round = many_votes(many_opened(), Phase::Prevote);
+    let round = again(again(round, Phase::Prevote, 4), Phase::Prevote, 24);
+    let kept = again(round, Phase::Prevote, 44).set_prevoted_index();
+    let round = many_votes(kept.round, Phase::Precommit);
+    let round = again(again(round, Phase::Precommit, 5), Phase::Precommit, 25);
+    let kept = again(round, Phase::Precommit, 45).set_precommitted_index();
     let round = kept.round;
     let asked = round.precommit_ghost();
     let round = asked.round;

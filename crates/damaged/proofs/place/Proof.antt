@@ -17,47 +17,36 @@ Inv-loop good at kind sums₀ way₀ way-end sums way = 0 ≤ way
 abbrev μ-loop : tie.MeasureT-loop
 μ-loop good at kind sums₀ way₀ way-end sums way = way-end - way
 
--- src/main.rt:105:9
 none-requires : tie.Need-none-requires Inv-loop μ-loop
 none-requires c κs = search needs
 
--- src/main.rt:106:19
 ways-requires : tie.Need-ways-requires Inv-loop μ-loop
 ways-requires c κs = search needs
 
--- src/main.rt:106:5
 loop-holds : tie.Need-loop-holds Inv-loop μ-loop
 loop-holds c = search needs
 
--- src/main.rt:107:58
 get-requires : tie.Need-get-requires Inv-loop μ-loop
 get-requires c κs = search needs
 
--- src/main.rt:107:38
 value-requires : tie.Need-value-requires Inv-loop μ-loop
 value-requires c κs = search needs
 
--- src/main.rt:107:13
 changed-requires : tie.Need-changed-requires Inv-loop μ-loop
 changed-requires c κs = search needs
 
--- src/main.rt:108:13
 both-requires : tie.Need-both-requires Inv-loop μ-loop
 both-requires c κs = search needs
 
--- src/main.rt:106:9
 add-way : tie.Need-add-way Inv-loop μ-loop
 add-way c = search needs
 
--- src/main.rt:106:5
 loop-less : tie.Need-loop-less Inv-loop μ-loop
 loop-less c = search needs
 
--- src/main.rt:106:5
 loop-again : tie.Need-loop-again Inv-loop μ-loop
 loop-again c = search needs
 
--- src/main.rt:104:1
 returns : tie.Need-returns Inv-loop μ-loop
 returns c = search needs
 

@@ -6,36 +6,29 @@ use Rattle.damaged.proofs.asking.spoiled.Reads as reads
 use Rattle.damaged.proofs.asking.spoiled.Lts as lts
 
 abbrev Inv-loop : tie.InvT-loop
-Inv-loop out k₀ k-end k = k ≤ k-end
+Inv-loop out k₀ k = k ≤ 5632
 
 abbrev μ-loop : tie.MeasureT-loop
-μ-loop out k₀ k-end k = k-end - k
+μ-loop out k₀ k = 5632 - k
 
--- src/asking.rt:275:5
 loop-holds : tie.Need-loop-holds Inv-loop μ-loop
 loop-holds c = search needs
 
--- src/asking.rt:276:12
-shared-slice-read-if1 : tie.Need-shared-slice-read-if1 Inv-loop μ-loop
-shared-slice-read-if1 c = search needs
+element-copy-out-if1 : tie.Need-element-copy-out-if1 Inv-loop μ-loop
+element-copy-out-if1 c = search needs
 
--- src/asking.rt:277:13
 returns : tie.Need-returns Inv-loop μ-loop
 returns c = search needs
 
--- src/asking.rt:275:9
 add-k : tie.Need-add-k Inv-loop μ-loop
 add-k c = search needs
 
--- src/asking.rt:275:5
 loop-less : tie.Need-loop-less Inv-loop μ-loop
 loop-less c = search needs
 
--- src/asking.rt:275:5
 loop-again : tie.Need-loop-again Inv-loop μ-loop
 loop-again c = search needs
 
--- src/asking.rt:274:1
 returns-2 : tie.Need-returns-2 Inv-loop μ-loop
 returns-2 c = search needs
 
@@ -46,7 +39,7 @@ spoiled-spec =
     Inv-loop
     μ-loop
     loop-holds
-    shared-slice-read-if1
+    element-copy-out-if1
     returns
     add-k
     loop-less

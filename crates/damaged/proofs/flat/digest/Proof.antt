@@ -12,35 +12,27 @@ Inv-loop flat sum₀ k₀ sum k = k ≤ 3476
 abbrev μ-loop : tie.MeasureT-loop
 μ-loop flat sum₀ k₀ sum k = 3476 - k
 
--- src/flat.rt:467:5
 loop-holds : tie.Need-loop-holds Inv-loop μ-loop
 loop-holds c = search needs
 
--- src/flat.rt:468:26
 mul-mixed : tie.Need-mul-mixed Inv-loop μ-loop
 mul-mixed c = search needs
 
--- src/flat.rt:468:26
 element-copy-out-mixed : tie.Need-element-copy-out-mixed Inv-loop μ-loop
 element-copy-out-mixed c = search needs
 
--- src/flat.rt:468:9
 mixed-requires : tie.Need-mixed-requires Inv-loop μ-loop
 mixed-requires c κs = search needs
 
--- src/flat.rt:467:9
 add-k : tie.Need-add-k Inv-loop μ-loop
 add-k c = search needs
 
--- src/flat.rt:467:5
 loop-less : tie.Need-loop-less Inv-loop μ-loop
 loop-less c = search needs
 
--- src/flat.rt:467:5
 loop-again : tie.Need-loop-again Inv-loop μ-loop
 loop-again c = search needs
 
--- src/flat.rt:465:1
 returns : tie.Need-returns Inv-loop μ-loop
 returns c = search needs
 

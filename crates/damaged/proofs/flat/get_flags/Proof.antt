@@ -13,35 +13,27 @@ Inv-loop flat at column₀ k₀ column k = k ≤ 256
 abbrev μ-loop : tie.MeasureT-loop
 μ-loop flat at column₀ k₀ column k = 256 - k
 
--- src/flat.rt:285:5
 loop-holds : tie.Need-loop-holds Inv-loop μ-loop
 loop-holds c = search needs
 
--- src/flat.rt:286:31
 after-requires : tie.Need-after-requires Inv-loop μ-loop
 after-requires c κs = search needs
 
--- src/flat.rt:286:21
 get-requires : tie.Need-get-requires Inv-loop μ-loop
 get-requires c κs = search needs
 
--- src/flat.rt:286:9
 element-write-column : tie.Need-element-write-column Inv-loop μ-loop
 element-write-column c = search needs
 
--- src/flat.rt:285:9
 add-k : tie.Need-add-k Inv-loop μ-loop
 add-k c = search needs
 
--- src/flat.rt:285:5
 loop-less : tie.Need-loop-less Inv-loop μ-loop
 loop-less c = search needs
 
--- src/flat.rt:285:5
 loop-again : tie.Need-loop-again Inv-loop μ-loop
 loop-again c = search needs
 
--- src/flat.rt:284:1
 returns : tie.Need-returns Inv-loop μ-loop
 returns c = search needs
 

@@ -15,43 +15,33 @@ Inv-loop flat at rows₀ k₀ rows k = (k ≤ 256) × (length rows ≡ 256)
 abbrev μ-loop : tie.MeasureT-loop
 μ-loop flat at rows₀ k₀ rows k = 256 - k
 
--- src/flat.rt:298:5
 loop-holds : tie.Need-loop-holds Inv-loop μ-loop
 loop-holds c = search needs
 
--- src/flat.rt:299:42
 mul-after : tie.Need-mul-after Inv-loop μ-loop
 mul-after c = search needs
 
--- src/flat.rt:299:32
 after-requires : tie.Need-after-requires Inv-loop μ-loop
 after-requires c κs = search needs
 
--- src/flat.rt:299:13
 row-at-requires : tie.Need-row-at-requires Inv-loop μ-loop
 row-at-requires c κs = search needs
 
--- src/flat.rt:300:9
 mul-rows : tie.Need-mul-rows Inv-loop μ-loop
 mul-rows c = search needs
 
--- src/flat.rt:300:9
 array-set-from-rows : tie.Need-array-set-from-rows Inv-loop μ-loop
 array-set-from-rows c = search needs
 
--- src/flat.rt:298:9
 add-k : tie.Need-add-k Inv-loop μ-loop
 add-k c = search needs
 
--- src/flat.rt:298:5
 loop-less : tie.Need-loop-less Inv-loop μ-loop
 loop-less c = search needs
 
--- src/flat.rt:298:5
 loop-again : tie.Need-loop-again Inv-loop μ-loop
 loop-again c = search needs
 
--- src/flat.rt:295:1
 returns : tie.Need-returns Inv-loop μ-loop
 returns c = search needs
 

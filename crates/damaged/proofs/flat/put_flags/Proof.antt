@@ -14,39 +14,30 @@ Inv-loop flat₀ at column k₀ flat k = k ≤ 256
 abbrev μ-loop : tie.MeasureT-loop
 μ-loop flat₀ at column k₀ flat k = 256 - k
 
--- src/flat.rt:143:5
 loop-holds : tie.Need-loop-holds Inv-loop μ-loop
 loop-holds c = search needs
 
--- src/flat.rt:144:19
 after-requires : tie.Need-after-requires Inv-loop μ-loop
 after-requires c κs = search needs
 
--- src/flat.rt:144:37
 element-copy-out-bit : tie.Need-element-copy-out-bit Inv-loop μ-loop
 element-copy-out-bit c = search needs
 
--- src/flat.rt:144:33
 bit-requires : tie.Need-bit-requires Inv-loop μ-loop
 bit-requires c κs = search needs
 
--- src/flat.rt:144:9
 put-requires : tie.Need-put-requires Inv-loop μ-loop
 put-requires c κs = search needs
 
--- src/flat.rt:143:9
 add-k : tie.Need-add-k Inv-loop μ-loop
 add-k c = search needs
 
--- src/flat.rt:143:5
 loop-less : tie.Need-loop-less Inv-loop μ-loop
 loop-less c = search needs
 
--- src/flat.rt:143:5
 loop-again : tie.Need-loop-again Inv-loop μ-loop
 loop-again c = search needs
 
--- src/flat.rt:142:1
 returns : tie.Need-returns Inv-loop μ-loop
 returns c = search needs
 

@@ -14,43 +14,33 @@ Inv-loop flat₀ at column k₀ k-end flat k = k ≤ k-end
 abbrev μ-loop : tie.MeasureT-loop
 μ-loop flat₀ at column k₀ k-end flat k = k-end - k
 
--- src/flat.rt:131:5
 loop-holds : tie.Need-loop-holds Inv-loop μ-loop
 loop-holds c = search needs
 
--- src/flat.rt:132:19
 after-requires : tie.Need-after-requires Inv-loop μ-loop
 after-requires c κs = search needs
 
--- src/flat.rt:132:39
 mul-wider : tie.Need-mul-wider Inv-loop μ-loop
 mul-wider c = search needs
 
--- src/flat.rt:132:39
 shared-slice-read-wider : tie.Need-shared-slice-read-wider Inv-loop μ-loop
 shared-slice-read-wider c = search needs
 
--- src/flat.rt:132:33
 wider-requires : tie.Need-wider-requires Inv-loop μ-loop
 wider-requires c κs = search needs
 
--- src/flat.rt:132:9
 put-requires : tie.Need-put-requires Inv-loop μ-loop
 put-requires c κs = search needs
 
--- src/flat.rt:131:9
 add-k : tie.Need-add-k Inv-loop μ-loop
 add-k c = search needs
 
--- src/flat.rt:131:5
 loop-less : tie.Need-loop-less Inv-loop μ-loop
 loop-less c = search needs
 
--- src/flat.rt:131:5
 loop-again : tie.Need-loop-again Inv-loop μ-loop
 loop-again c = search needs
 
--- src/flat.rt:130:1
 returns : tie.Need-returns Inv-loop μ-loop
 returns c = search needs
 

@@ -13,43 +13,33 @@ Inv-loop flat₀ at rows k₀ flat k = k ≤ 256
 abbrev μ-loop : tie.MeasureT-loop
 μ-loop flat₀ at rows k₀ flat k = 256 - k
 
--- src/flat.rt:156:5
 loop-holds : tie.Need-loop-holds Inv-loop μ-loop
 loop-holds c = search needs
 
--- src/flat.rt:157:19
 mul-row : tie.Need-mul-row Inv-loop μ-loop
 mul-row c = search needs
 
--- src/flat.rt:157:19
 array-copy-out-row : tie.Need-array-copy-out-row Inv-loop μ-loop
 array-copy-out-row c = search needs
 
--- src/flat.rt:158:33
 mul-after : tie.Need-mul-after Inv-loop μ-loop
 mul-after c = search needs
 
--- src/flat.rt:158:23
 after-requires : tie.Need-after-requires Inv-loop μ-loop
 after-requires c κs = search needs
 
--- src/flat.rt:158:9
 put-row-requires : tie.Need-put-row-requires Inv-loop μ-loop
 put-row-requires c κs = search needs
 
--- src/flat.rt:156:9
 add-k : tie.Need-add-k Inv-loop μ-loop
 add-k c = search needs
 
--- src/flat.rt:156:5
 loop-less : tie.Need-loop-less Inv-loop μ-loop
 loop-less c = search needs
 
--- src/flat.rt:156:5
 loop-again : tie.Need-loop-again Inv-loop μ-loop
 loop-again c = search needs
 
--- src/flat.rt:155:1
 returns : tie.Need-returns Inv-loop μ-loop
 returns c = search needs
 

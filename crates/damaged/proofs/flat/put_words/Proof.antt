@@ -13,39 +13,30 @@ Inv-loop flat₀ at column k₀ k-end flat k = k ≤ k-end
 abbrev μ-loop : tie.MeasureT-loop
 μ-loop flat₀ at column k₀ k-end flat k = k-end - k
 
--- src/flat.rt:137:5
 loop-holds : tie.Need-loop-holds Inv-loop μ-loop
 loop-holds c = search needs
 
--- src/flat.rt:138:19
 after-requires : tie.Need-after-requires Inv-loop μ-loop
 after-requires c κs = search needs
 
--- src/flat.rt:138:33
 mul-put : tie.Need-mul-put Inv-loop μ-loop
 mul-put c = search needs
 
--- src/flat.rt:138:33
 shared-slice-read-put : tie.Need-shared-slice-read-put Inv-loop μ-loop
 shared-slice-read-put c = search needs
 
--- src/flat.rt:138:9
 put-requires : tie.Need-put-requires Inv-loop μ-loop
 put-requires c κs = search needs
 
--- src/flat.rt:137:9
 add-k : tie.Need-add-k Inv-loop μ-loop
 add-k c = search needs
 
--- src/flat.rt:137:5
 loop-less : tie.Need-loop-less Inv-loop μ-loop
 loop-less c = search needs
 
--- src/flat.rt:137:5
 loop-again : tie.Need-loop-again Inv-loop μ-loop
 loop-again c = search needs
 
--- src/flat.rt:136:1
 returns : tie.Need-returns Inv-loop μ-loop
 returns c = search needs
 

@@ -12,55 +12,42 @@ Inv-loop good sets wrong₀ k₀ k-end wrong k = k ≤ k-end
 abbrev μ-loop : tie.MeasureT-loop
 μ-loop good sets wrong₀ k₀ k-end wrong k = k-end - k
 
--- src/several.rt:245:5
 loop-holds : tie.Need-loop-holds Inv-loop μ-loop
 loop-holds c = search needs
 
--- src/several.rt:246:36
 mul-put : tie.Need-mul-put Inv-loop μ-loop
 mul-put c = search needs
 
--- src/several.rt:246:31
 mul-put-2 : tie.Need-mul-put-2 Inv-loop μ-loop
 mul-put-2 c = search needs
 
--- src/several.rt:246:31
 shared-slice-read-put : tie.Need-shared-slice-read-put Inv-loop μ-loop
 shared-slice-read-put c = search needs
 
--- src/several.rt:246:49
 mul-put-3 : tie.Need-mul-put-3 Inv-loop μ-loop
 mul-put-3 c = search needs
 
--- src/several.rt:246:49
 add-put : tie.Need-add-put Inv-loop μ-loop
 add-put c = search needs
 
--- src/several.rt:246:44
 mul-put-4 : tie.Need-mul-put-4 Inv-loop μ-loop
 mul-put-4 c = search needs
 
--- src/several.rt:246:44
 shared-slice-read-put-2 : tie.Need-shared-slice-read-put-2 Inv-loop μ-loop
 shared-slice-read-put-2 c = search needs
 
--- src/several.rt:246:9
 put-requires : tie.Need-put-requires Inv-loop μ-loop
 put-requires c κs = search needs
 
--- src/several.rt:245:9
 add-k : tie.Need-add-k Inv-loop μ-loop
 add-k c = search needs
 
--- src/several.rt:245:5
 loop-less : tie.Need-loop-less Inv-loop μ-loop
 loop-less c = search needs
 
--- src/several.rt:245:5
 loop-again : tie.Need-loop-again Inv-loop μ-loop
 loop-again c = search needs
 
--- src/several.rt:243:1
 returns : tie.Need-returns Inv-loop μ-loop
 returns c = search needs
 

@@ -14,39 +14,30 @@ Inv-loop start end round₀ k₀ round k = 0 ≤ k
 abbrev μ-loop : tie.MeasureT-loop
 μ-loop start end round₀ k₀ round k = end - k
 
--- src/states.rt:120:5
 loop-holds : tie.Need-loop-holds Inv-loop μ-loop
 loop-holds c = search needs
 
--- src/states.rt:121:33
 id-of-requires : tie.Need-id-of-requires Inv-loop μ-loop
 id-of-requires c κs = search needs
 
--- src/states.rt:121:49
 parent-of-requires : tie.Need-parent-of-requires Inv-loop μ-loop
 parent-of-requires c κs = search needs
 
--- src/states.rt:121:43
 id-of-requires-2 : tie.Need-id-of-requires-2 Inv-loop μ-loop
 id-of-requires-2 c κs = search needs
 
--- src/states.rt:121:13
 grown-requires : tie.Need-grown-requires Inv-loop μ-loop
 grown-requires c κs = search needs
 
--- src/states.rt:120:9
 add-k : tie.Need-add-k Inv-loop μ-loop
 add-k c = search needs
 
--- src/states.rt:120:5
 loop-less : tie.Need-loop-less Inv-loop μ-loop
 loop-less c = search needs
 
--- src/states.rt:120:5
 loop-again : tie.Need-loop-again Inv-loop μ-loop
 loop-again c = search needs
 
--- src/states.rt:118:1
 returns : tie.Need-returns Inv-loop μ-loop
 returns c = search needs
 

@@ -15,63 +15,48 @@ Inv-loop ids₀ weights₀ k₀ ids weights k = (k ≤ 64) × (length ids ≡ 64
 abbrev μ-loop : tie.MeasureT-loop
 μ-loop ids₀ weights₀ k₀ ids weights k = 64 - k
 
--- src/states.rt:69:5
 loop-holds : tie.Need-loop-holds Inv-loop μ-loop
 loop-holds c = search needs
 
--- src/states.rt:70:18
 signer-of-requires : tie.Need-signer-of-requires Inv-loop μ-loop
 signer-of-requires c κs = search needs
 
--- src/states.rt:70:9
 mul-ids : tie.Need-mul-ids Inv-loop μ-loop
 mul-ids c = search needs
 
--- src/states.rt:70:9
 array-write-ids : tie.Need-array-write-ids Inv-loop μ-loop
 array-write-ids c = search needs
 
--- src/states.rt:71:27
 mul-weights : tie.Need-mul-weights Inv-loop μ-loop
 mul-weights c = search needs
 
--- src/states.rt:71:22
 add-weights : tie.Need-add-weights Inv-loop μ-loop
 add-weights c = search needs
 
--- src/states.rt:71:9
 mul-weights-2 : tie.Need-mul-weights-2 Inv-loop μ-loop
 mul-weights-2 c = search needs
 
--- src/states.rt:71:9
 array-write-weights : tie.Need-array-write-weights Inv-loop μ-loop
 array-write-weights c = search needs
 
--- src/states.rt:69:9
 add-k : tie.Need-add-k Inv-loop μ-loop
 add-k c = search needs
 
--- src/states.rt:69:5
 loop-less : tie.Need-loop-less Inv-loop μ-loop
 loop-less c = search needs
 
--- src/states.rt:69:5
 loop-again : tie.Need-loop-again Inv-loop μ-loop
 loop-again c = search needs
 
--- src/states.rt:73:30
 slice-aggregate-new : tie.Need-slice-aggregate-new Inv-loop μ-loop
 slice-aggregate-new c = search needs
 
--- src/states.rt:73:36
 slice-aggregate-new-2 : tie.Need-slice-aggregate-new-2 Inv-loop μ-loop
 slice-aggregate-new-2 c = search needs
 
--- src/states.rt:73:9
 new-requires : tie.Need-new-requires Inv-loop μ-loop
 new-requires c κs = search needs
 
--- src/states.rt:66:1
 returns : tie.Need-returns Inv-loop μ-loop
 returns c = search needs
 
