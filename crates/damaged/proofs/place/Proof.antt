@@ -6,7 +6,7 @@ use Rattle.damaged.proofs.place.Reads as reads
 use Rattle.damaged.proofs.place.Lts as lts
 use Rattle.damaged.proofs.both.Reads as both-reads
 use Rattle.damaged.proofs.changed.Reads as changed-reads
-use Rattle.damaged.proofs.flat.get.Reads as get-reads
+use Rattle.round_words.proofs.get.Reads as get-reads
 use Rattle.damaged.proofs.none.Reads as none-reads
 use Rattle.damaged.proofs.wrongs.value.Reads as value-reads
 use Rattle.damaged.proofs.wrongs.ways.Reads as ways-reads

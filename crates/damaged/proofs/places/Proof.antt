@@ -5,7 +5,7 @@ use Rattle.damaged.proofs.places.Tie as tie
 use Rattle.damaged.proofs.places.Reads as reads
 use Rattle.damaged.proofs.places.Lts as lts
 use Rattle.damaged.proofs.both.Reads as both-reads
-use Rattle.damaged.proofs.flat.after.Reads as after-reads
+use Rattle.round_words.proofs.after.Reads as after-reads
 use Rattle.damaged.proofs.none.Reads as none-reads
 use Rattle.damaged.proofs.place.Reads as place-reads
 

@@ -4,7 +4,7 @@ use Rattle.damaged.proofs.several.set.Statement.{statement}
 use Rattle.damaged.proofs.several.set.Tie as tie
 use Rattle.damaged.proofs.several.set.Reads as reads
 use Rattle.damaged.proofs.several.set.Lts as lts
-use Rattle.damaged.proofs.flat.put.Reads as put-reads
+use Rattle.round_words.proofs.put.Reads as put-reads
 
 abbrev Inv-loop : tie.InvT-loop
 Inv-loop good sets wrong₀ k₀ k-end wrong k = k ≤ k-end
