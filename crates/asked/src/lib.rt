@@ -21,9 +21,16 @@ use two_views::Views;
 pub const CALLS: u64 = 26;
 
 // How many calls answered 9, and how many changed the round or the bytes that they were handed.
-pub struct Tally {
+struct Tally {
+    nines: u64,
+    changed: u64,
+}
+
+// The same of all calls, and whether `new` refuses.
+pub struct Asked {
     pub nines: u64,
     pub changed: u64,
+    pub unmade: u64,
 }
 
 fn is_nine(n: u8) -> u64 {
@@ -284,7 +291,7 @@ fn of_lists(round: Round) -> Tally {
 }
 
 // All calls on a round of these words.
-pub fn asked(round: Round, words: &[u64; SIZE], good: Round) -> Tally {
+fn of_calls(round: Round, words: &[u64; SIZE], good: Round) -> Tally {
     let told = plus(of_numbers(round), of_blocks(round));
     let tested = plus(of_voters(round), of_tests(round, good));
     let reads = Tally {
@@ -295,11 +302,23 @@ pub fn asked(round: Round, words: &[u64; SIZE], good: Round) -> Tally {
 }
 
 // `new` on the voters and the table of a round.
-pub fn opened(round: Round, base: u32) -> u64 {
+fn of_new(round: Round, base: u32) -> u64 {
     let context = round.context;
     let voters = context.voters;
     let table = round.table;
     let made = Round::new(round.number, voters, table, base);
     let answer = made.answer;
     of_done(answer)
+}
+
+// What the calls say of the round of a damaged one's words, and `new` of its voters and table, on the block that is the base of the good
+// one.
+pub fn all<'a>(good: &'a [u64; SIZE], wrong: &'a [u64; SIZE]) -> Asked {
+    let round = round_words::round_of(wrong);
+    let tally = of_calls(round, wrong, round_words::round_of(good));
+    Asked {
+        nines: tally.nines,
+        changed: tally.changed,
+        unmade: of_new(round, round_words::base_id(good)),
+    }
 }

@@ -5,6 +5,7 @@
 // What passes is what no rule tests: the round's number; ids of voters that still rise; the id of a block that is no other's, where the
 // heads still lie by rising id; the number of a root that is alone; a parent of the same number, where nodes, bits and stored blocks
 // stay right; signatures and second pairs that are recorded; indices of at most 256; stored blocks at or below the base, and completable.
+use asked::Asked;
 use libc::STDOUT_FILENO;
 use round_words::SIZE;
 use wrongs::Kind;
@@ -54,25 +55,25 @@ fn both(one: Sums, other: Sums) -> Sums {
     }
 }
 
-fn judged(tally: asked::Tally, unmade: u64) -> Sums {
-    if tally.nines == 0 {
+fn judged(asked: Asked) -> Sums {
+    if asked.nines == 0 {
         return Sums {
             damaged: 1,
             refused: 0,
             passed: 1,
             uneven: 0,
             changed: 0,
-            unmade,
+            unmade: asked.unmade,
         };
     }
-    if tally.nines == asked::CALLS {
+    if asked.nines == asked::CALLS {
         return Sums {
             damaged: 1,
             refused: 1,
             passed: 0,
             uneven: 0,
-            changed: tally.changed,
-            unmade,
+            changed: asked.changed,
+            unmade: asked.unmade,
         };
     }
     Sums {
@@ -80,19 +81,9 @@ fn judged(tally: asked::Tally, unmade: u64) -> Sums {
         refused: 0,
         passed: 0,
         uneven: 1,
-        changed: tally.changed,
-        unmade,
+        changed: asked.changed,
+        unmade: asked.unmade,
     }
-}
-
-// What the calls say of a damaged round, and `new` of its voters and table, on the block that is the base of the good one.
-fn tried<'a>(good: &'a [u64; SIZE], wrong: &'a [u64; SIZE]) -> Sums {
-    let round = round_words::round_of(wrong);
-    let unmade = asked::opened(round, round_words::base_id(good));
-    judged(
-        asked::asked(round, wrong, round_words::round_of(good)),
-        unmade,
-    )
 }
 
 // One word changed, unless it stays.
@@ -102,7 +93,7 @@ fn changed(good: &[u64; SIZE], at: usize, value: u64) -> Sums {
     }
     let mut wrong = *good;
     round_words::put(&mut wrong, at, value);
-    tried(good, &wrong)
+    judged(asked::all(good, &wrong))
 }
 
 fn place(good: &[u64; SIZE], at: usize, kind: Kind) -> Sums {
@@ -353,15 +344,15 @@ fn fields<'a>(name: &'a [u8], good: &'a [u64; SIZE]) {
 }
 
 fn main() {
-    let good = round_words::words_of(made_rounds::opened());
+    let good = made_rounds::opened();
     fields(b"opened", &good);
     several::of_opened(&good);
-    let good = round_words::words_of(made_rounds::case_j());
+    let good = made_rounds::case_j();
     fields(b"case J", &good);
-    let good = round_words::words_of(made_rounds::case_j_twice());
+    let good = made_rounds::case_j_twice();
     fields(b"case J with an equivocation", &good);
     several::of_case_j(&good);
-    let good = round_words::words_of(made_rounds::many());
+    let good = made_rounds::many();
     fields(b"64 voters, 50 blocks", &good);
     several::of_many(&good);
 }

@@ -1,8 +1,8 @@
 // Several fields of a round changed at once, so that one shape rule alone is broken; a few break none. Each is a list of words by their
 // place in a round and what they become.
+use crate::judged;
 use crate::say;
 use crate::say_sums;
-use crate::tried;
 use round_words::ABOVE;
 use round_words::BASE;
 use round_words::BLOCK_COUNT;
@@ -249,7 +249,7 @@ fn set<'a>(good: &'a [u64; SIZE], sets: &'a [usize]) -> [u64; SIZE] {
 fn several<'a>(good: &'a [u64; SIZE], name: &'a [u8], sets: &'a [usize]) {
     let wrong = set(good, sets);
     say(name);
-    say_sums(tried(good, &wrong));
+    say_sums(judged(asked::all(good, &wrong)));
 }
 
 pub fn of_opened(good: &[u64; SIZE]) {

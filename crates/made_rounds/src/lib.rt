@@ -1,8 +1,9 @@
-// Rounds made by calls: an opened one, document 01's case J, J with an equivocation, and one of 64 voters on 50 blocks.
+// Rounds made by calls, as words: an opened one, document 01's case J, J with an equivocation, and one of 64 voters on 50 blocks.
 //
 // This serves the program `damaged`, which is judged by its stored output: the functions are proved safe and ending, and promise no more.
 use context::Phase;
 use round::Round;
+use round_words::SIZE;
 use tracker::Pair;
 use voter_set::VoterSet;
 
@@ -42,7 +43,7 @@ fn grown(round: Round, id: u32, parent: u32) -> Round {
 }
 
 // Voters 1 to 4 of weight 1, round 7 on the root 10 of number 0.
-pub fn opened() -> Round {
+fn start() -> Round {
     let ids = [1u32, 2, 3, 4];
     let weights = [1u64; 4];
     let made = VoterSet::new(&ids, &weights);
@@ -53,8 +54,8 @@ pub fn opened() -> Round {
 }
 
 // Document 01, "The journal".
-pub fn case_j() -> Round {
-    let round = grown(opened(), 11, 10);
+fn journal() -> Round {
+    let round = grown(start(), 11, 10);
     let round = grown(grown(round, 12, 11), 13, 11);
     let round = prevoted(prevoted(round, 1, 12), 2, 12);
     let round = prevoted(prevoted(round, 3, 13), 4, 12);
@@ -62,9 +63,17 @@ pub fn case_j() -> Round {
     precommitted(round, 3, 11, 1, 0)
 }
 
+pub fn opened() -> [u64; SIZE] {
+    round_words::words_of(start())
+}
+
+pub fn case_j() -> [u64; SIZE] {
+    round_words::words_of(journal())
+}
+
 // Document 01, "Numbers to hold it to": voter 3's second precommit for 13.
-pub fn case_j_twice() -> Round {
-    precommitted(case_j(), 3, 13, 2, 5)
+pub fn case_j_twice() -> [u64; SIZE] {
+    round_words::words_of(precommitted(journal(), 3, 13, 2, 5))
 }
 
 // The 64 voters of the last round.
@@ -186,7 +195,7 @@ fn again(round: Round, phase: Phase, voter: u32) -> Round {
     )
 }
 
-pub fn many() -> Round {
+pub fn many() -> [u64; SIZE] {
     let round = many_votes(many_opened(), Phase::Prevote);
     let round = again(again(round, Phase::Prevote, 4), Phase::Prevote, 24);
     let kept = again(round, Phase::Prevote, 44).set_prevoted_index();
@@ -196,5 +205,5 @@ pub fn many() -> Round {
     let round = kept.round;
     let asked = round.precommit_ghost();
     let round = asked.round;
-    round
+    round_words::words_of(round)
 }
