@@ -5,24 +5,12 @@
 // What passes is what no rule tests: the round's number; ids of voters that still rise; the id of a block that is no other's, where the
 // heads still lie by rising id; the number of a root that is alone; a parent of the same number, where nodes, bits and stored blocks
 // stay right; signatures and second pairs that are recorded; indices of at most 256; stored blocks at or below the base, and completable.
-use asked::Asked;
+use damaging::Kind;
+use damaging::Sums;
 use libc::STDOUT_FILENO;
 use round_words::SIZE;
-use wrongs::Kind;
 
 mod several;
-mod wrongs;
-
-// How many damaged rounds there were, those that every call refused and those that none did; those on which the calls disagreed, and
-// what refusing calls changed; and how many of their voters and tables `new` refused.
-struct Sums {
-    damaged: u64,
-    refused: u64,
-    passed: u64,
-    uneven: u64,
-    changed: u64,
-    unmade: u64,
-}
 
 fn say(words: &[u8]) {
     io::write_all(STDOUT_FILENO, words);
@@ -31,93 +19,6 @@ fn say(words: &[u8]) {
 fn say_number(words: &[u8], n: u64) {
     say(words);
     io::print_decimal(STDOUT_FILENO, n);
-}
-
-fn none() -> Sums {
-    Sums {
-        damaged: 0,
-        refused: 0,
-        passed: 0,
-        uneven: 0,
-        changed: 0,
-        unmade: 0,
-    }
-}
-
-fn both(one: Sums, other: Sums) -> Sums {
-    Sums {
-        damaged: asked::plus(one.damaged, other.damaged),
-        refused: asked::plus(one.refused, other.refused),
-        passed: asked::plus(one.passed, other.passed),
-        uneven: asked::plus(one.uneven, other.uneven),
-        changed: asked::plus(one.changed, other.changed),
-        unmade: asked::plus(one.unmade, other.unmade),
-    }
-}
-
-fn judged(asked: Asked) -> Sums {
-    if asked.nines == 0 {
-        return Sums {
-            damaged: 1,
-            refused: 0,
-            passed: 1,
-            uneven: 0,
-            changed: 0,
-            unmade: asked.unmade,
-        };
-    }
-    if asked.nines == asked::CALLS {
-        return Sums {
-            damaged: 1,
-            refused: 1,
-            passed: 0,
-            uneven: 0,
-            changed: asked.changed,
-            unmade: asked.unmade,
-        };
-    }
-    Sums {
-        damaged: 1,
-        refused: 0,
-        passed: 0,
-        uneven: 1,
-        changed: asked.changed,
-        unmade: asked.unmade,
-    }
-}
-
-// One word changed, unless it stays.
-fn changed(good: &[u64; SIZE], at: usize, value: u64) -> Sums {
-    if round_words::get(good, at) == value {
-        return none();
-    }
-    let mut wrong = *good;
-    round_words::put(&mut wrong, at, value);
-    judged(asked::all(good, &wrong))
-}
-
-fn place(good: &[u64; SIZE], at: usize, kind: Kind) -> Sums {
-    let mut sums = none();
-    for way in 0..wrongs::ways(kind) {
-        let more = changed(
-            good,
-            at,
-            wrongs::value(kind, round_words::get(good, at), way),
-        );
-        let next = both(sums, more);
-        sums = next;
-    }
-    sums
-}
-
-fn places(good: &[u64; SIZE], start: usize, count: usize, kind: Kind) -> Sums {
-    let mut sums = none();
-    for k in 0..count {
-        let more = place(good, round_words::after(start, k), kind);
-        let next = both(sums, more);
-        sums = next;
-    }
-    sums
 }
 
 fn say_sums(sums: Sums) {
@@ -133,7 +34,7 @@ fn say_sums(sums: Sums) {
 // A line for a field.
 fn field<'a>(good: &'a [u64; SIZE], name: &'a [u8], start: usize, count: usize, kind: Kind) {
     say(name);
-    say_sums(places(good, start, count, kind));
+    say_sums(damaging::places(good, start, count, kind));
 }
 
 fn of_voters(good: &[u64; SIZE]) {

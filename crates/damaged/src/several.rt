@@ -1,6 +1,5 @@
 // Several fields of a round changed at once, so that one shape rule alone is broken; a few break none. Each is a list of words by their
 // place in a round and what they become.
-use crate::judged;
 use crate::say;
 use crate::say_sums;
 use round_words::ABOVE;
@@ -237,19 +236,10 @@ const VOTE_BESIDE_THE_BASE_NOT_HEARD: [usize; 20] = [
     123,
 ];
 
-fn set<'a>(good: &'a [u64; SIZE], sets: &'a [usize]) -> [u64; SIZE] {
-    let mut wrong = *good;
-    for k in 0..sets.len() / 2 {
-        round_words::put(&mut wrong, sets[2 * k], sets[2 * k + 1] as u64);
-    }
-    wrong
-}
-
 // A line for a round with several fields changed.
 fn several<'a>(good: &'a [u64; SIZE], name: &'a [u8], sets: &'a [usize]) {
-    let wrong = set(good, sets);
     say(name);
-    say_sums(judged(asked::all(good, &wrong)));
+    say_sums(damaging::several(good, sets));
 }
 
 pub fn of_opened(good: &[u64; SIZE]) {

@@ -1,15 +1,15 @@
 use borrow.Author.Needs.{needs}
 use Prim.Native.Nat.{_-_, _≤_}
-use Rattle.damaged.proofs.place.Statement.{statement}
-use Rattle.damaged.proofs.place.Tie as tie
-use Rattle.damaged.proofs.place.Reads as reads
-use Rattle.damaged.proofs.place.Lts as lts
-use Rattle.damaged.proofs.both.Reads as both-reads
-use Rattle.damaged.proofs.changed.Reads as changed-reads
+use Rattle.damaging.proofs.place.Statement.{statement}
+use Rattle.damaging.proofs.place.Tie as tie
+use Rattle.damaging.proofs.place.Reads as reads
+use Rattle.damaging.proofs.place.Lts as lts
+use Rattle.damaging.proofs.both.Reads as both-reads
+use Rattle.damaging.proofs.changed.Reads as changed-reads
 use Rattle.round_words.proofs.get.Reads as get-reads
-use Rattle.damaged.proofs.none.Reads as none-reads
-use Rattle.damaged.proofs.wrongs.value.Reads as value-reads
-use Rattle.damaged.proofs.wrongs.ways.Reads as ways-reads
+use Rattle.damaging.proofs.none.Reads as none-reads
+use Rattle.damaging.proofs.value.Reads as value-reads
+use Rattle.damaging.proofs.ways.Reads as ways-reads
 
 abbrev Inv-loop : tie.InvT-loop
 Inv-loop good at kind sums₀ way₀ way-end sums way = 0 ≤ way

@@ -1,13 +1,13 @@
 use borrow.Author.Needs.{needs}
 use Prim.Native.Nat.{_-_, _≤_}
-use Rattle.damaged.proofs.places.Statement.{statement}
-use Rattle.damaged.proofs.places.Tie as tie
-use Rattle.damaged.proofs.places.Reads as reads
-use Rattle.damaged.proofs.places.Lts as lts
-use Rattle.damaged.proofs.both.Reads as both-reads
+use Rattle.damaging.proofs.places.Statement.{statement}
+use Rattle.damaging.proofs.places.Tie as tie
+use Rattle.damaging.proofs.places.Reads as reads
+use Rattle.damaging.proofs.places.Lts as lts
+use Rattle.damaging.proofs.both.Reads as both-reads
 use Rattle.round_words.proofs.after.Reads as after-reads
-use Rattle.damaged.proofs.none.Reads as none-reads
-use Rattle.damaged.proofs.place.Reads as place-reads
+use Rattle.damaging.proofs.none.Reads as none-reads
+use Rattle.damaging.proofs.place.Reads as place-reads
 
 abbrev Inv-loop : tie.InvT-loop
 Inv-loop good start count kind sums₀ k₀ sums k = k ≤ count

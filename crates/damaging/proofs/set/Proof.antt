@@ -1,9 +1,9 @@
 use borrow.Author.Needs.{needs}
 use Prim.Native.Nat.{_-_, _≤_}
-use Rattle.damaged.proofs.several.set.Statement.{statement}
-use Rattle.damaged.proofs.several.set.Tie as tie
-use Rattle.damaged.proofs.several.set.Reads as reads
-use Rattle.damaged.proofs.several.set.Lts as lts
+use Rattle.damaging.proofs.set.Statement.{statement}
+use Rattle.damaging.proofs.set.Tie as tie
+use Rattle.damaging.proofs.set.Reads as reads
+use Rattle.damaging.proofs.set.Lts as lts
 use Rattle.round_words.proofs.put.Reads as put-reads
 
 abbrev Inv-loop : tie.InvT-loop
