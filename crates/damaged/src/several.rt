@@ -1,35 +1,33 @@
 // Several fields of a round changed at once, so that one shape rule alone is broken; a few break none. Each is a list of words by their
 // place in a round and what they become.
-use crate::flat;
-use crate::flat::ABOVE;
-use crate::flat::BASE;
-use crate::flat::BLOCK_COUNT;
-use crate::flat::ENTRIES;
-use crate::flat::ENTRY_COUNT;
-use crate::flat::HEADS;
-use crate::flat::HEARD_PRECOMMIT;
-use crate::flat::IDS;
-use crate::flat::LISTED;
-use crate::flat::NUMBERS;
-use crate::flat::ORDER;
-use crate::flat::PARENTS;
-use crate::flat::PLACES;
-use crate::flat::ROWS;
-use crate::flat::SECONDS;
-use crate::flat::SIZE;
-use crate::flat::TARGET_NUMBERS;
-use crate::flat::TARGETS;
-use crate::flat::THRESHOLD;
-use crate::flat::TIMES;
-use crate::flat::TIPS;
-use crate::flat::TOTAL;
-use crate::flat::USED;
-use crate::flat::VOTER_COUNT;
-use crate::flat::VOTER_IDS;
-use crate::flat::WEIGHTS;
 use crate::say;
 use crate::say_sums;
-use crate::tried;
+use round_words::ABOVE;
+use round_words::BASE;
+use round_words::BLOCK_COUNT;
+use round_words::ENTRIES;
+use round_words::ENTRY_COUNT;
+use round_words::HEADS;
+use round_words::HEARD_PRECOMMIT;
+use round_words::IDS;
+use round_words::LISTED;
+use round_words::NUMBERS;
+use round_words::ORDER;
+use round_words::PARENTS;
+use round_words::PLACES;
+use round_words::ROWS;
+use round_words::SECONDS;
+use round_words::SIZE;
+use round_words::TARGET_NUMBERS;
+use round_words::TARGETS;
+use round_words::THRESHOLD;
+use round_words::TIMES;
+use round_words::TIPS;
+use round_words::TOTAL;
+use round_words::USED;
+use round_words::VOTER_COUNT;
+use round_words::VOTER_IDS;
+use round_words::WEIGHTS;
 
 const NO_BLOCKS: [usize; 4] = [IDS, 0, BLOCK_COUNT, 0];
 
@@ -238,19 +236,10 @@ const VOTE_BESIDE_THE_BASE_NOT_HEARD: [usize; 20] = [
     123,
 ];
 
-fn set<'a>(good: &'a [u64; SIZE], sets: &'a [usize]) -> [u64; SIZE] {
-    let mut wrong = *good;
-    for k in 0..sets.len() / 2 {
-        flat::put(&mut wrong, sets[2 * k], sets[2 * k + 1] as u64);
-    }
-    wrong
-}
-
 // A line for a round with several fields changed.
 fn several<'a>(good: &'a [u64; SIZE], name: &'a [u8], sets: &'a [usize]) {
-    let wrong = set(good, sets);
     say(name);
-    say_sums(tried(good, &wrong));
+    say_sums(damaging::several(good, sets));
 }
 
 pub fn of_opened(good: &[u64; SIZE]) {
