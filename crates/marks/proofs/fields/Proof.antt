@@ -1,0 +1,35 @@
+use borrow.Author.Needs.{needs}
+use Rattle.marks.proofs.fields.Statement.{statement}
+use Rattle.marks.proofs.fields.Tie as tie
+use Rattle.marks.proofs.fields.Reads as reads
+use Rattle.marks.proofs.fields.Lts as lts
+use Rattle.marks.proofs.size.Reads as size-reads
+
+-- src/lib.rt:98:19
+size-requires : tie.Need-size-requires
+size-requires c κs = search needs
+
+-- src/lib.rt:98:15
+add-result : tie.Need-add-result
+add-result c = search needs
+
+-- src/lib.rt:98:5
+sub-result : tie.Need-sub-result
+sub-result c = search needs
+
+-- src/lib.rt:98:5
+part-result-start : tie.Need-part-result-start
+part-result-start c = search needs
+
+-- src/lib.rt:98:5
+part-result-end : tie.Need-part-result-end
+part-result-end c = search needs
+
+-- src/lib.rt:94:1
+returns : tie.Need-returns
+returns c = ?
+
+pub fields-spec : {M : Type 1} → statement M
+fields-spec =
+    tie.close
+    (tie.spec size-requires add-result sub-result part-result-start part-result-end returns)
