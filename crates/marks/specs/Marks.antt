@@ -11,6 +11,8 @@ use Rattle.marks.specs.declared.Named.{Named}
 use Rattle.marks.specs.declared.Named.the-variants as name
 use Rattle.marks.specs.declared.Record.{Record}
 use Rattle.marks.specs.declared.Record.the-variants as is
+use Rattle.marks.specs.declared.End.{End}
+use Rattle.marks.specs.declared.End.the-variants as end
 
 -- a byte of a list, 0 past its end
 abbrev pub byte : List ℕ → ℕ → ℕ
@@ -59,3 +61,12 @@ word fs at = byte fs at + 256 * byte fs (at + 1) + 65536 * byte fs (at + 2) + 16
 
 unfoldable pub long : List ℕ → ℕ → ℕ
 long fs at = word fs at + 4294967296 * word fs (at + 4)
+
+-- why no record is whole at the start of some bytes: 17 at an unknown mark; a whole record is another's to judge
+abbrev pub ends : Record → End
+ends is.Unknown = end.Refused 17
+ends is.Cut = end.Cut
+ends (is.Whole m) = end.Left
+
+unfoldable pub ending : List ℕ → End
+ending bs = ends (read bs)

@@ -2,7 +2,7 @@
 ghost use mathlib.Core.Path.{_≡_};
 ghost use Prim.Native.Nat.{_+_, _≤_, _<_};
 ghost use lib.ListN.{length};
-ghost use Rattle.marks.specs.Marks.{named, size, read, fields, word, long};
+ghost use Rattle.marks.specs.Marks.{named, size, read, fields, word, long, ending};
 
 pub enum Mark {
     Vt,
@@ -115,4 +115,15 @@ pub fn long(fields: &[u8], at: usize) -> u64
     ensures { λ r. ⌜ r ≡ long (now (fields .entry)) at ⌝ }
 {
     wider(word(fields, at)) + 4294967296 * wider(word(fields, at + 4))
+}
+
+// Why no record is whole at the start of some bytes.
+pub fn ending(bytes: &[u8]) -> End
+    ensures { λ r. ⌜ r ≡ ending (now (bytes .entry)) ⌝ }
+{
+    match read(bytes) {
+        Record::Unknown => End::Refused(17),
+        Record::Cut => End::Cut,
+        Record::Whole(_) => End::Left,
+    }
 }
