@@ -1,4 +1,5 @@
-use mathlib.Core.Path.{_≡_}
+use mathlib.Core.Path.{_≡_, ap}
+use lib.ListN.{take, drop}
 use Prim.Native.Nat.{_+_, _-_}
 use native.Mathlib.Omega.{arith}
 use Rattle.marks.specs.Marks.{size, fields}
@@ -34,7 +35,7 @@ returns : tie.Need-returns
 unfolding fields
 returns c =
     let s : 2 + c .before .size .result - 2 ≡ size (c .before .before .before .args .mark) = omega (arith, c .before .size .ensures) in
-    rw s
+    ap (λ n. take n (drop 2 (c .before .before .before .args .bytes .now))) s
 
 pub fields-spec : {M : Type 1} → statement M
 fields-spec =
