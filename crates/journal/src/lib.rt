@@ -1,15 +1,33 @@
-// A journal's replay: as a function on bytes, and as a state that takes bytes piece by piece.
+// A journal's state by value, and a run over some bytes of it. The columns are lent to the loops of the crates below, once for all records
+// of the bytes.
+ghost use mathlib.Core.Path.{_≡_};
+ghost use Prim.Native.Nat.{ℕ, _+_, _≤_, _<_};
+ghost use lib.Dec.{T};
+ghost use lib.ListN.{length, drop};
+ghost use Rattle.weights.specs.Weights.{most};
+ghost use Rattle.voter_set.specs.Good.{Good};
+ghost use Rattle.block_shape.specs.Shape.{Shaped};
+ghost use Rattle.held_laws.specs.Kept.{Kept};
+ghost use Rattle.marks.specs.declared.Mark.the-variants.{Rt, Op};
+ghost use Rattle.marks.specs.declared.Record.the-variants.{Whole};
+ghost use Rattle.marks.specs.Marks.{read};
+ghost use Rattle.round.specs.Shape.{frame, held};
+ghost use Rattle.turns.specs.Turns.{pairing, growing, voting, no-pairs};
+ghost use Rattle.turns.specs.Stands.{Stands};
+ghost use Rattle.journal.specs.Journal.{laid, told, unset, stands, run-of, Within, run-from};
 use blocks::BlockTable;
 use blocks::Place;
 use context::Context;
 use importing::Standing;
 use marks::End;
+use marks::Mark;
 use pairing::Pairs;
 use round::History;
 use round::Index;
 use round::Round;
 use tracker::Votes;
 use vote_graph::VoteGraph;
+use voter_set::Answer;
 use voter_set::VoterSet;
 
 // Which records may come.
@@ -35,38 +53,9 @@ pub struct Progress {
     pub end: End,
 }
 
-// The bytes of a record that is not whole yet.
-pub struct Rest {
-    pub bytes: [u8; 22],
-    pub count: usize,
-}
-
-pub enum Stop {
-    Open,
-    Refused(u8),
-}
-
-// A replay between two pieces of its journal. A refused record stops it: what was told before stays, and the record's number is one more
-// than `records`.
-pub struct Replay {
-    pub journal: Journal,
-    pub rest: Rest,
-    pub records: u64,
-    pub stop: Stop,
-}
-
-pub struct Fed {
-    pub answer: Stop,
-    pub replay: Replay,
-}
-
-// A record's bytes from two pieces.
-pub struct Joint {
-    pub bytes: [u8; 44],
-    pub count: usize,
-}
-
-fn no_pairs() -> Pairs {
+pub fn no_pairs() -> Pairs
+    ensures { λ r. ⌜ r ≡ no-pairs ⌝ }
+{
     Pairs {
         ids: [0u32; 256],
         weights: [0u64; 256],
@@ -74,32 +63,49 @@ fn no_pairs() -> Pairs {
     }
 }
 
-fn with_pairs(pairs: Pairs) -> Journal {
+pub fn with_pairs(pairs: Pairs) -> Journal
+    ensures { λ r. ⌜ r ≡ laid (pairing pairs) ⌝ }
+{
+    let blank = round::opened(0, round::nobody(), round::no_blocks(), 0);
     Journal {
         turn: Turn::Voters,
         pairs,
-        round: round::opened(0, round::nobody(), round::no_blocks(), 0),
+        round: blank,
     }
 }
 
-fn with_blocks(voters: VoterSet, table: BlockTable) -> Journal {
+fn with_blocks(voters: VoterSet, table: BlockTable) -> Journal
+    ensures { λ r. ⌜ r ≡ laid (growing voters table) ⌝ }
+{
+    let pairs = no_pairs();
+    let round = round::opened(0, voters, table, 0);
     Journal {
         turn: Turn::Blocks,
-        pairs: no_pairs(),
-        round: round::opened(0, voters, table, 0),
-    }
-}
-
-fn with_round(round: Round) -> Journal {
-    Journal {
-        turn: Turn::Votes,
-        pairs: no_pairs(),
+        pairs,
         round,
     }
 }
 
+// Records and bytes before a run are added to its own.
+fn later(count: u64, at: usize, progress: Progress) -> Progress
+    requires { ⌜ (count + progress .count ≤ most) × (at + progress .at ≤ most) ⌝ }
+    ensures { λ r. ⌜ r ≡ record { journal = progress .journal; count = count + progress .count; at = at + progress .at; end = progress .end } ⌝ }
+{
+    let journal = progress.journal;
+    let end = progress.end;
+    Progress {
+        journal,
+        count: count + progress.count,
+        at: at + progress.at,
+        end,
+    }
+}
+
 // The third turn.
-fn from_votes(round: Round, bytes: &[u8]) -> Progress {
+fn from_votes(round: Round, bytes: &[u8]) -> Progress
+    requires { ⌜ Kept (frame round) (held round) ⌝ }
+    ensures { λ r. ⌜ (run-of r (now (bytes .entry)) ≡ run-from (voting (record { frame = frame round; held = held round })) (now (bytes .entry))) × Within r (now (bytes .entry)) ⌝ }
+{
     let context = round.context;
     let voters = context.voters;
     let table = round.table;
@@ -163,36 +169,40 @@ fn from_votes(round: Round, bytes: &[u8]) -> Progress {
     let heard_after = after.heard;
     let answers_after = after.answers;
     let end = ran.end;
+    let table_after = BlockTable {
+        ids,
+        numbers: heights,
+        parents,
+        count: ran.blocks,
+    };
+    let rows_after = graph_rows::rows_of(&rows);
+    let graph_after = VoteGraph {
+        base: graph.base,
+        used,
+        above,
+        rows: rows_after,
+        order,
+        listed: after.listed,
+        heads,
+        tips: after.tips,
+    };
+    let votes_after = Votes {
+        times,
+        places,
+        signatures,
+        targets,
+        numbers,
+        seconds,
+    };
     let round_after = Round {
         number: round.number,
         context: Context {
             voters,
             equivocations: after.equivocations,
         },
-        table: BlockTable {
-            ids,
-            numbers: heights,
-            parents,
-            count: ran.blocks,
-        },
-        graph: VoteGraph {
-            base: graph.base,
-            used,
-            above,
-            rows: graph_rows::rows_of(&rows),
-            order,
-            listed: after.listed,
-            heads,
-            tips: after.tips,
-        },
-        votes: Votes {
-            times,
-            places,
-            signatures,
-            targets,
-            numbers,
-            seconds,
-        },
+        table: table_after,
+        graph: graph_after,
+        votes: votes_after,
         history: History {
             entries,
             count: after.count,
@@ -202,16 +212,44 @@ fn from_votes(round: Round, bytes: &[u8]) -> Progress {
         heard: heard_after,
         answers: answers_after,
     };
+    let pairs = no_pairs();
     Progress {
-        journal: with_round(round_after),
+        journal: Journal {
+            turn: Turn::Votes,
+            pairs,
+            round: round_after,
+        },
         count: ran.count,
         at: ran.at,
         end,
     }
 }
 
+// The Op, and what follows it.
+fn open(voters: VoterSet, table: BlockTable, part: &[u8]) -> Progress
+    requires { ⌜ Stands Kept (growing voters table) × (read (now part) ≡ Whole Op) ⌝ }
+    ensures { λ r. ⌜ (run-of r (now (part .entry)) ≡ run-from (growing voters table) (now (part .entry))) × Within r (now (part .entry)) ⌝ }
+{
+    let fields = marks::fields(part, Mark::Op);
+    let number = marks::long(fields, 0);
+    let base = marks::word(fields, 8);
+    let Place::At(place) = blocks::find(&table.ids, table.count, base) else {
+        return Progress {
+            journal: with_blocks(voters, table),
+            count: 0,
+            at: 0,
+            end: End::Refused(10),
+        };
+    };
+    let opened = round::opened(number, voters, table, place);
+    later(1, 14, from_votes(opened, &part[14..]))
+}
+
 // The second turn, and the third where an Op is among the bytes.
-fn from_blocks(voters: VoterSet, table: BlockTable, bytes: &[u8]) -> Progress {
+fn from_blocks(voters: VoterSet, table: BlockTable, bytes: &[u8]) -> Progress
+    requires { ⌜ Stands Kept (growing voters table) ⌝ }
+    ensures { λ r. ⌜ (run-of r (now (bytes .entry)) ≡ run-from (growing voters table) (now (bytes .entry))) × Within r (now (bytes .entry)) ⌝ }
+{
     let mut ids = table.ids;
     let mut numbers = table.numbers;
     let mut parents = table.parents;
@@ -224,7 +262,7 @@ fn from_blocks(voters: VoterSet, table: BlockTable, bytes: &[u8]) -> Progress {
     };
     let end = ran.end;
     match end {
-        End::Left => open(voters, grown, bytes, ran.at, ran.count),
+        End::Left => later(ran.count, ran.at, open(voters, grown, &bytes[ran.at..])),
         End::Cut => Progress {
             journal: with_blocks(voters, grown),
             count: ran.count,
@@ -240,34 +278,35 @@ fn from_blocks(voters: VoterSet, table: BlockTable, bytes: &[u8]) -> Progress {
     }
 }
 
-// The Op at a place of the bytes, and what follows it.
-fn open(voters: VoterSet, table: BlockTable, bytes: &[u8], at: usize, count: u64) -> Progress {
-    let fields = marks::fields(&bytes[at..], marks::Mark::Op);
-    let number = marks::long(fields, 0);
-    let base = marks::word(fields, 8);
-    let Place::At(place) = blocks::find(&table.ids, table.count, base) else {
-        return Progress {
-            journal: with_blocks(voters, table),
-            count,
-            at,
-            end: End::Refused(10),
-        };
-    };
-    let after = from_votes(
-        round::opened(number, voters, table, place),
-        &bytes[at + 14..],
-    );
-    let end = after.end;
-    Progress {
-        journal: after.journal,
-        count: count + 1 + after.count,
-        at: at + 14 + after.at,
-        end,
+// The Rt, and what follows it.
+fn root(pairs: Pairs, part: &[u8]) -> Progress
+    requires { ⌜ Stands Kept (pairing pairs) × (read (now part) ≡ Whole Rt) ⌝ }
+    ensures { λ r. ⌜ (run-of r (now (part .entry)) ≡ run-from (pairing pairs) (now (part .entry))) × Within r (now (part .entry)) ⌝ }
+{
+    let fields = marks::fields(part, Mark::Rt);
+    let count = pairs.count;
+    let made = VoterSet::new(&pairs.ids[..count], &pairs.weights[..count]);
+    let answer = made.answer;
+    let voters = made.voters;
+    match answer {
+        Answer::Refused(number) => Progress {
+            journal: with_pairs(pairs),
+            count: 0,
+            at: 0,
+            end: End::Refused(number),
+        },
+        Answer::Made => {
+            let table = block_table::new(marks::word(fields, 0), marks::word(fields, 4));
+            later(1, 10, from_blocks(voters, table, &part[10..]))
+        }
     }
 }
 
 // The first turn, and those after it.
-fn from_voters(pairs: Pairs, bytes: &[u8]) -> Progress {
+pub fn from_voters(pairs: Pairs, bytes: &[u8]) -> Progress
+    requires { ⌜ Stands Kept (pairing pairs) ⌝ }
+    ensures { λ r. ⌜ (run-of r (now (bytes .entry)) ≡ run-from (pairing pairs) (now (bytes .entry))) × Within r (now (bytes .entry)) ⌝ }
+{
     let mut ids = pairs.ids;
     let mut weights = pairs.weights;
     let ran = pairing::run(&mut ids, &mut weights, pairs.count, bytes);
@@ -278,7 +317,7 @@ fn from_voters(pairs: Pairs, bytes: &[u8]) -> Progress {
     };
     let end = ran.end;
     match end {
-        End::Left => root(paired, bytes, ran.at, ran.count),
+        End::Left => later(ran.count, ran.at, root(paired, &bytes[ran.at..])),
         End::Cut => Progress {
             journal: with_pairs(paired),
             count: ran.count,
@@ -294,153 +333,65 @@ fn from_voters(pairs: Pairs, bytes: &[u8]) -> Progress {
     }
 }
 
-// The Rt at a place of the bytes, and what follows it.
-fn root(pairs: Pairs, bytes: &[u8], at: usize, count: u64) -> Progress {
-    let fields = marks::fields(&bytes[at..], marks::Mark::Rt);
-    let made = VoterSet::new(&pairs.ids[..pairs.count], &pairs.weights[..pairs.count]);
-    let answer = made.answer;
-    match answer {
-        voter_set::Answer::Refused(number) => Progress {
-            journal: with_pairs(pairs),
-            count,
-            at,
-            end: End::Refused(number),
-        },
-        voter_set::Answer::Made => {
-            let voters = made.voters;
-            let table = block_table::new(marks::word(fields, 0), marks::word(fields, 4));
-            let after = from_blocks(voters, table, &bytes[at + 10..]);
-            let end = after.end;
-            Progress {
-                journal: after.journal,
-                count: count + 1 + after.count,
-                at: at + 10 + after.at,
-                end,
+fn is_unset(index: Index) -> bool
+    ensures { λ r. ⌜ r ≡ unset index ⌝ }
+{
+    match index {
+        Index::Nothing => true,
+        Index::At(_) => false,
+    }
+}
+
+impl Journal {
+    // Whether a state that is handed in can go on.
+    pub fn is_journal(self) -> bool
+        ensures { λ r. ⌜ r ≡ stands self ⌝ }
+    {
+        let turn = self.turn;
+        let pairs = self.pairs;
+        let round = self.round;
+        match turn {
+            Turn::Voters => pairs.count <= 256,
+            Turn::Blocks => {
+                let context = round.context;
+                let voters = context.voters;
+                if !voters.is_good() {
+                    return false;
+                }
+                block_table::is_table(round.table)
+            }
+            Turn::Votes => {
+                if !round.is_round() {
+                    return false;
+                }
+                let history = round.history;
+                let prevoted = history.prevoted;
+                let precommitted = history.precommitted;
+                if !is_unset(prevoted) {
+                    return false;
+                }
+                is_unset(precommitted)
             }
         }
     }
-}
 
-fn run(journal: Journal, bytes: &[u8]) -> Progress {
-    let turn = journal.turn;
-    let round = journal.round;
-    match turn {
-        Turn::Voters => from_voters(journal.pairs, bytes),
-        Turn::Blocks => {
-            let context = round.context;
-            from_blocks(context.voters, round.table, bytes)
-        }
-        Turn::Votes => from_votes(round, bytes),
-    }
-}
-
-fn rest_of(bytes: &[u8]) -> Rest {
-    let mut kept = [0u8; 22];
-    bytes::copy(bytes, &mut kept);
-    Rest {
-        bytes: kept,
-        count: bytes.len(),
-    }
-}
-
-fn more(records: u64, count: u64) -> u64 {
-    if 18446744073709551615 - records < count {
-        return 18446744073709551615;
-    }
-    records + count
-}
-
-// The replay after a run over some bytes.
-fn after(records: u64, progress: Progress, bytes: &[u8]) -> Replay {
-    let end = progress.end;
-    let journal = progress.journal;
-    let seen = more(records, progress.count);
-    match end {
-        End::Refused(number) => Replay {
-            journal,
-            rest: rest_of(&bytes[..0]),
-            records: seen,
-            stop: Stop::Refused(number),
-        },
-        End::Cut => Replay {
-            journal,
-            rest: rest_of(&bytes[progress.at..]),
-            records: seen,
-            stop: Stop::Open,
-        },
-        End::Left => Replay {
-            journal,
-            rest: rest_of(&bytes[..0]),
-            records: seen,
-            stop: Stop::Refused(18),
-        },
-    }
-}
-
-pub fn replay(bytes: &[u8]) -> Replay {
-    after(0, from_voters(no_pairs(), bytes), bytes)
-}
-
-fn join(rest: Rest, piece: &[u8]) -> Joint {
-    let mut both = [0u8; 44];
-    bytes::copy(&rest.bytes[..rest.count], &mut both);
-    let more = if 22 < piece.len() { 22 } else { piece.len() };
-    bytes::copy(&piece[..more], &mut both[rest.count..]);
-    Joint {
-        bytes: both,
-        count: rest.count + more,
-    }
-}
-
-impl Replay {
-    pub fn new() -> Replay {
-        Replay {
-            journal: with_pairs(no_pairs()),
-            rest: Rest {
-                bytes: [0u8; 22],
-                count: 0,
-            },
-            records: 0,
-            stop: Stop::Open,
-        }
-    }
-
-    pub fn feed(self, piece: &[u8]) -> Fed {
-        let journal = self.journal;
-        let rest = self.rest;
-        let stop = self.stop;
-        match stop {
-            Stop::Refused(number) => {
-                return Fed {
-                    answer: Stop::Refused(number),
-                    replay: self,
-                };
+    // A run over some bytes, by the turn.
+    pub fn run(self, bytes: &[u8]) -> Progress
+        requires { ⌜ Stands Kept (told self) ⌝ }
+        ensures { λ r. ⌜ (run-of r (now (bytes .entry)) ≡ run-from (told self) (now (bytes .entry))) × Within r (now (bytes .entry)) ⌝ }
+    {
+        let turn = self.turn;
+        let pairs = self.pairs;
+        let round = self.round;
+        match turn {
+            Turn::Voters => from_voters(pairs, bytes),
+            Turn::Blocks => {
+                let context = round.context;
+                let voters = context.voters;
+                let table = round.table;
+                from_blocks(voters, table, bytes)
             }
-            Stop::Open => {}
+            Turn::Votes => from_votes(round, bytes),
         }
-        let replay = fed(journal, rest, self.records, piece);
-        let answer = replay.stop;
-        Fed { answer, replay }
-    }
-}
-
-fn fed(journal: Journal, rest: Rest, records: u64, piece: &[u8]) -> Replay {
-    if rest.count == 0 {
-        return after(records, run(journal, piece), piece);
-    }
-    let joint = join(rest, piece);
-    let first = run(journal, &joint.bytes[..joint.count]);
-    if first.at == 0 {
-        return after(records, first, &joint.bytes[..joint.count]);
-    }
-    let end = first.end;
-    let told = first.journal;
-    match end {
-        End::Cut => {
-            let part = &piece[first.at - rest.count..];
-            after(more(records, first.count), run(told, part), part)
-        }
-        End::Refused(_) => after(records, first, &joint.bytes[..joint.count]),
-        End::Left => after(records, first, &joint.bytes[..joint.count]),
     }
 }

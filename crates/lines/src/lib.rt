@@ -1,9 +1,5 @@
 // The lines that a replay prints, written into a lent buffer.
 use context::Phase;
-use journal::Journal;
-use journal::Replay;
-use journal::Stop;
-use journal::Turn;
 use round::Round;
 use round::Told;
 
@@ -20,7 +16,7 @@ fn put_number(out: &mut [u8; 512], at: usize, n: u64) -> usize {
     put(out, at, &digits[..k])
 }
 
-fn put_refused(out: &mut [u8; 512], number: u8, record: u64) -> usize {
+pub fn put_refused(out: &mut [u8; 512], number: u8, record: u64) -> usize {
     let a = put(out, 0, b"refused ");
     let b = put_number(out, a, number as u64);
     let c = put(out, b, b" at ");
@@ -34,7 +30,7 @@ fn put_tail(out: &mut [u8; 512], at: usize, tail: usize) -> usize {
     put(out, b, b"\n")
 }
 
-fn put_round(out: &mut [u8; 512], number: u64) -> usize {
+fn put_number_line(out: &mut [u8; 512], number: u64) -> usize {
     let a = put(out, 0, b"round ");
     let b = put_number(out, a, number);
     put(out, b, b"\n")
@@ -110,7 +106,7 @@ fn put_lines(out: &mut [u8; 512], round: Round) -> usize {
     let voters = context.voters;
     let heard = round.heard;
     let graph = round.graph;
-    let a = put_round(out, round.number);
+    let a = put_number_line(out, round.number);
     let b = put(out, a, b"prevote ");
     let c = put_heard(
         out,
@@ -132,30 +128,12 @@ fn put_lines(out: &mut [u8; 512], round: Round) -> usize {
     put_answers(out, e, round)
 }
 
-// Document 01's lines of a replay.
-pub fn print(replay: Replay, out: &mut [u8; 512]) -> usize {
-    let stop = replay.stop;
-    let journal = replay.journal;
-    let turn = journal.turn;
-    let rest = replay.rest;
-    match stop {
-        Stop::Refused(number) => {
-            return put_refused(out, number, replay.records + 1);
-        }
-        Stop::Open => {}
-    }
-    match turn {
-        Turn::Votes => {
-            let a = put_lines(out, journal.round);
-            put_tail(out, a, rest.count)
-        }
-        Turn::Blocks => {
-            let a = put(out, 0, b"no round\n");
-            put_tail(out, a, rest.count)
-        }
-        Turn::Voters => {
-            let a = put(out, 0, b"no round\n");
-            put_tail(out, a, rest.count)
-        }
-    }
+pub fn put_no_round(out: &mut [u8; 512], tail: usize) -> usize {
+    let a = put(out, 0, b"no round\n");
+    put_tail(out, a, tail)
+}
+
+pub fn put_round(out: &mut [u8; 512], round: Round, tail: usize) -> usize {
+    let a = put_lines(out, round);
+    put_tail(out, a, tail)
 }

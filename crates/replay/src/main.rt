@@ -1,7 +1,8 @@
 // Reads a journal from standard input and prints document 01's lines.
-use journal::Replay;
+use feeding::Replay;
 use libc::STDIN_FILENO;
 use libc::STDOUT_FILENO;
+use listing::Written;
 
 fn main() {
     let mut space = io::large_buffer();
@@ -15,6 +16,10 @@ fn main() {
         replay = fed.replay;
     }
     let mut out = [0u8; 512];
-    let n = lines::print(replay, &mut out);
-    io::write_all(STDOUT_FILENO, &out[..n]);
+    let Written::Bytes(n) = report::print(replay, &mut out) else {
+        return;
+    };
+    if n <= 512 {
+        io::write_all(STDOUT_FILENO, &out[..n]);
+    }
 }

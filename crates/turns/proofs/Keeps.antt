@@ -112,10 +112,10 @@ module _ (P : Frame → Held → Type 0)
   unfolding rooted
   rooted-stands p fs = go (new ids weights .answer) refl
     where
-      abbrev ids : List ℕ
+      ids : List ℕ
       ids = take (p .count) (p .ids)
 
-      abbrev weights : List ℕ
+      weights : List ℕ
       weights = take (p .count) (p .weights)
 
       fits : new ids weights .answer ≡ Made → new ids weights .voters .total ≤ most

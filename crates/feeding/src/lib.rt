@@ -1,0 +1,211 @@
+// A journal's replay: as a function on bytes, and as a state that takes bytes piece by piece, so that a journal of any length is replayed in
+// constant memory.
+ghost use mathlib.Core.Path.{_≡_};
+ghost use mathlib.Core.List.{_++_};
+ghost use Prim.Native.Nat.{_+_, _≤_};
+ghost use lib.ListN.{length, take, drop};
+ghost use Rattle.weights.specs.Weights.{plus};
+ghost use Rattle.journal.specs.Journal.{run-of};
+use journal::Journal;
+use journal::Progress;
+use marks::End;
+use marks::Record;
+
+// The bytes of a record that is not whole yet; places past the count are not looked at.
+pub struct Rest {
+    pub bytes: [u8; 22],
+    pub count: usize,
+}
+
+pub enum Stop {
+    Open,
+    Refused(u8),
+}
+
+// A replay between two pieces of its journal. A refused record stops it: what was told before stays, and the refused record is the one after
+// those taken.
+pub struct Replay {
+    pub journal: Journal,
+    pub rest: Rest,
+    pub records: u64,
+    pub stop: Stop,
+}
+
+pub struct Fed {
+    pub answer: Stop,
+    pub replay: Replay,
+}
+
+// A record's bytes from two pieces.
+pub struct Joint {
+    pub bytes: [u8; 44],
+    pub count: usize,
+}
+
+// Bytes that are left, at most 22.
+fn rest_of(left: &[u8]) -> Rest
+    requires { ⌜ length (now left) ≤ 22 ⌝ }
+    ensures { λ r. ⌜ r ≡ kept-rest (now (left .entry)) ⌝ }
+{
+    let mut kept = [0u8; 22];
+    bytes::copy(left, &mut kept);
+    Rest {
+        bytes: kept,
+        count: left.len(),
+    }
+}
+
+// Records are counted up to 2^64 - 1.
+fn more(records: u64, count: u64) -> u64
+    ensures { λ r. ⌜ r ≡ plus records count ⌝ }
+{
+    let seen = weights::VoteWeight::from(records);
+    let all = seen.add(weights::VoteWeight::from(count));
+    all.0
+}
+
+// The replay after a run over some bytes.
+fn after(records: u64, progress: Progress, bytes: &[u8]) -> Replay {
+    let end = progress.end;
+    let journal = progress.journal;
+    let seen = more(records, progress.count);
+    match end {
+        End::Cut => {
+            let rest = rest_of(&bytes[progress.at..]);
+            Replay {
+                journal,
+                rest,
+                records: seen,
+                stop: Stop::Open,
+            }
+        }
+        End::Refused(number) => {
+            let rest = rest_of(&bytes[..0]);
+            Replay {
+                journal,
+                rest,
+                records: seen,
+                stop: Stop::Refused(number),
+            }
+        }
+        End::Left => {
+            let rest = rest_of(&bytes[..0]);
+            Replay {
+                journal,
+                rest,
+                records: seen,
+                stop: Stop::Refused(18),
+            }
+        }
+    }
+}
+
+// A whole journal.
+pub fn replay(bytes: &[u8]) -> Replay {
+    let pairs = journal::no_pairs();
+    after(0, journal::from_voters(pairs, bytes), bytes)
+}
+
+// What is left of a piece, and the start of the next one: with 22 bytes of it at hand any record is whole.
+fn join(rest: Rest, piece: &[u8]) -> Joint {
+    let mut both = [0u8; 44];
+    let count = rest.count;
+    bytes::copy(&rest.bytes[..count], &mut both);
+    if piece.len() < 22 {
+        bytes::copy(piece, &mut both[count..]);
+        return Joint {
+            bytes: both,
+            count: count + piece.len(),
+        };
+    }
+    bytes::copy(&piece[..22], &mut both[count..]);
+    Joint {
+        bytes: both,
+        count: count + 22,
+    }
+}
+
+fn went(journal: Journal, rest: Rest, records: u64, piece: &[u8]) -> Replay {
+    if rest.count == 0 {
+        return after(records, journal.run(piece), piece);
+    }
+    let count = rest.count;
+    let joint = join(rest, piece);
+    let first = journal.run(&joint.bytes[..joint.count]);
+    let end = first.end;
+    let told = first.journal;
+    let at = first.at;
+    if at == 0 {
+        return after(records, first, &joint.bytes[..joint.count]);
+    }
+    match end {
+        End::Cut => {
+            let part = &piece[at - count..];
+            after(more(records, first.count), told.run(part), part)
+        }
+        End::Refused(_) => after(records, first, &joint.bytes[..joint.count]),
+        End::Left => after(records, first, &joint.bytes[..joint.count]),
+    }
+}
+
+fn is_rest(rest: Rest) -> bool {
+    if 22 < rest.count {
+        return false;
+    }
+    match marks::read(&rest.bytes[..rest.count]) {
+        Record::Cut => true,
+        Record::Whole(_) => false,
+        Record::Unknown => false,
+    }
+}
+
+impl Replay {
+    // Before the first record.
+    pub fn new() -> Replay {
+        let pairs = journal::no_pairs();
+        let journal = journal::with_pairs(pairs);
+        Replay {
+            journal,
+            rest: Rest {
+                bytes: [0u8; 22],
+                count: 0,
+            },
+            records: 0,
+            stop: Stop::Open,
+        }
+    }
+
+    // Whether a state that is handed in can go on.
+    pub fn is_replay(self) -> bool {
+        let journal = self.journal;
+        let rest = self.rest;
+        if !journal.is_journal() {
+            return false;
+        }
+        is_rest(rest)
+    }
+
+    // The next piece of the journal's bytes. A replay that has stopped stays as it is.
+    pub fn feed(self, piece: &[u8]) -> Fed {
+        if !self.is_replay() {
+            return Fed {
+                answer: Stop::Refused(9),
+                replay: self,
+            };
+        }
+        let stop = self.stop;
+        let journal = self.journal;
+        let rest = self.rest;
+        match stop {
+            Stop::Refused(number) => Fed {
+                answer: Stop::Refused(number),
+                replay: self,
+            },
+            Stop::Open => {
+                let replay = went(journal, rest, self.records, piece);
+                let answer = replay.stop;
+                Fed { answer, replay }
+            }
+        }
+    }
+}
