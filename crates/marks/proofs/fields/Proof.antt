@@ -1,3 +1,8 @@
+use mathlib.Core.Path.{_≡_, ap}
+use lib.ListN.{take, drop}
+use Prim.Native.Nat.{_+_, _-_}
+use native.Mathlib.Omega.{arith}
+use Rattle.marks.specs.Marks.{size, fields}
 use borrow.Author.Needs.{needs}
 use Rattle.marks.proofs.fields.Statement.{statement}
 use Rattle.marks.proofs.fields.Tie as tie
@@ -27,7 +32,10 @@ part-result-end c = search needs
 
 -- src/lib.rt:94:1
 returns : tie.Need-returns
-returns c = ?
+unfolding fields
+returns c =
+    let s : 2 + c .before .size .result - 2 ≡ size (c .before .before .before .args .mark) = omega (arith, c .before .size .ensures) in
+    ap (λ n. take n (drop 2 (c .before .before .before .args .bytes .now))) s
 
 pub fields-spec : {M : Type 1} → statement M
 fields-spec =

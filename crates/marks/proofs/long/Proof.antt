@@ -1,3 +1,5 @@
+use native.Mathlib.Omega.{arith}
+use Rattle.marks.specs.Marks.{long}
 use borrow.Author.Needs.{needs}
 use Rattle.marks.proofs.long.Statement.{statement}
 use Rattle.marks.proofs.long.Tie as tie
@@ -36,7 +38,8 @@ add-result c = search needs
 
 -- src/lib.rt:113:1
 returns : tie.Need-returns
-returns c = ?
+unfolding long
+returns c = omega arith
 
 pub long-spec : {M : Type 1} → statement M
 long-spec =

@@ -1,3 +1,6 @@
+use mathlib.Core.Path.{_≡_, sym, _∙_}
+use native.Mathlib.Omega.{arith}
+use Rattle.marks.proofs.Readings.{size-most, read-short, read-unknown, read-cut, read-whole}
 use borrow.Author.Needs.{needs}
 use Rattle.marks.proofs.read.Statement.{statement}
 use Rattle.marks.proofs.read.Tie as tie
@@ -9,7 +12,7 @@ use Rattle.marks.proofs.wide.Reads as wide-reads
 
 -- src/lib.rt:82:9
 returns : tie.Need-returns
-returns c = ?
+returns c = sym (read-short _ (c .if1 .taken))
 
 -- src/lib.rt:84:40
 shared-slice-read-wide : tie.Need-shared-slice-read-wide
@@ -49,7 +52,8 @@ enum-told c = search needs
 
 -- src/lib.rt:85:9
 returns-2 : tie.Need-returns-2
-returns-2 c = ?
+returns-2 c =
+    sym (read-unknown _ (c .before .before .before .before .before .before .before .if1 .left) (rw (← c .before .before .before .before .before .wide .ensures .0, ← c .before .before .before .wide2 .ensures .0) (sym (c .before .before .name .ensures) ∙ c .enum-told .given .1)))
 
 -- src/lib.rt:87:26
 size-requires : tie.Need-size-requires
@@ -57,15 +61,17 @@ size-requires c κs = search needs
 
 -- src/lib.rt:87:22
 add-if2 : tie.Need-add-if2
-add-if2 c = ?
+add-if2 c = omega (arith, size-most (c .before .before .mark .given .0 .0), c .size .ensures)
 
 -- src/lib.rt:88:9
 returns-3 : tie.Need-returns-3
-returns-3 c = ?
+returns-3 c =
+    sym (read-cut _ (c .before .before .before .mark .given .0 .0) (c .before .before .before .before .before .before .before .before .before .before .if1 .left) (rw (← c .before .before .before .before .before .before .before .before .wide .ensures .0, ← c .before .before .before .before .before .before .wide2 .ensures .0) (sym (c .before .before .before .before .before .name .ensures) ∙ c .before .before .before .mark .given .1)) (rw (c .before .size .ensures) at (c .if2 .taken)))
 
 -- src/lib.rt:78:1
 returns-4 : tie.Need-returns-4
-returns-4 c = ?
+returns-4 c =
+    sym (read-whole _ _ (rw (← c .before .before .before .before .before .before .before .before .wide .ensures .0, ← c .before .before .before .before .before .before .wide2 .ensures .0) (sym (c .before .before .before .before .before .name .ensures) ∙ c .before .before .before .mark .given .1)) (rw (c .before .size .ensures) at (c .if2 .left)))
 
 pub read-spec : {M : Type 1} → statement M
 read-spec =

@@ -1,3 +1,5 @@
+use native.Mathlib.Omega.{arith}
+use Rattle.marks.specs.Marks.{word}
 use borrow.Author.Needs.{needs}
 use Rattle.marks.proofs.word.Statement.{statement}
 use Rattle.marks.proofs.word.Tie as tie
@@ -75,7 +77,8 @@ add-result-3 c = search needs
 
 -- src/lib.rt:102:1
 returns : tie.Need-returns
-returns c = ?
+unfolding word
+returns c = omega arith
 
 pub word-spec : {M : Type 1} → statement M
 word-spec =
