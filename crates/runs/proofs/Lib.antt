@@ -1,0 +1,4 @@
+pub mod Fuels
+pub mod Counts
+pub mod Turns
+pub mod Inductions

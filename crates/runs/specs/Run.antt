@@ -47,3 +47,7 @@ run step (suc f) s n bs =
 -- all records of some bytes: a record has more than one byte, so there are not more of them than bytes
 unfoldable pub ran : {S : Type 0} → (S → Mark → List ℕ → Next S) → S → List ℕ → Run S
 ran step s bs = run step (length bs) s 0 bs
+
+-- the same run, n records taken before it
+unfoldable pub counted : {S : Type 0} → ℕ → Run S → Run S
+counted n r = record { state = r .state; count = n + r .count; rest = r .rest; end = r .end }
