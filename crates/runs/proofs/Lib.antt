@@ -2,3 +2,5 @@ pub mod Fuels
 pub mod Counts
 pub mod Turns
 pub mod Inductions
+pub mod Appends
+pub mod Rests
