@@ -4,3 +4,4 @@ pub mod Turns
 pub mod Inductions
 pub mod Appends
 pub mod Rests
+pub mod Joints
