@@ -33,6 +33,10 @@ whole-more a b m e =
     let l = w .1 in
     read-whole (a ++ b) m (rw (mark-more a b (omega arith)) (w .0)) (omega (arith, length-append a b))
 
+-- a record whose bytes all stand in a is whole in a
+pub whole-less : (a b : List ℕ) (m : Mark) → read (a ++ b) ≡ is.Whole m → 2 + size m ≤ length a → read a ≡ is.Whole m
+whole-less a b m e l = read-whole a m (rw (mark-more a b (omega arith)) at (whole-means (a ++ b) m e .0)) l
+
 pub unknown-more : (a b : List ℕ) → read a ≡ is.Unknown → read (a ++ b) ≡ is.Unknown
 unknown-more a b e =
     let w = unknown-means a e in

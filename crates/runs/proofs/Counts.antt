@@ -26,6 +26,10 @@ pub counted-ended : {S : Type 0} (m n : ℕ) (s : S) (bs : List ℕ) (e : End) �
 unfolding counted
 counted-ended m n s bs e = refl
 
+pub counted-parts : {S : Type 0} (n : ℕ) (r : Run S) → counted n r ≡ ended (r .state) (n + r .count) (r .rest) (r .end)
+unfolding counted
+counted-parts n r = refl
+
 module _ {S : Type 0} (step : S → Mark → List ℕ → Next S) where
   pub run-counts : (f : ℕ) (s : S) (n : ℕ) (bs : List ℕ) → run step f s n bs ≡ counted n (run step f s 0 bs)
   run-counts zero s n bs = rw (turn-none step s n bs, turn-none step s 0 bs, counted-ended) (ap (λ k. ended s k bs Cut) (omega arith))
