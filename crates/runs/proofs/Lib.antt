@@ -5,3 +5,5 @@ pub mod Inductions
 pub mod Appends
 pub mod Rests
 pub mod Joints
+pub mod Parses
+pub mod Folds
