@@ -4,7 +4,7 @@ use mathlib.Core.Path.{_≡_, refl, sym, ap, _∙_}
 use Prim.Native.Nat.{ℕ, zero, suc, _+_, _-_, _≤_, _<_}
 use native.Mathlib.Omega.{arith}
 use lib.ListN.{length, take, drop}
-use lib.Seq.{drop-drop}
+use lib.Seq.{drop-drop, take-length}
 use Rattle.marks.specs.declared.Mark.{Mark}
 use Rattle.marks.specs.declared.Record.the-variants as is
 use Rattle.marks.specs.declared.End.{End}
@@ -99,3 +99,38 @@ module _ {S : Type 0} (step : S → Mark → List ℕ → Next S) where
       go leaves q ih =
           let w : folded step s (e ∷ es) .end ≡ Left = ap (λ (r : Folded S). r .end) (fold-leaves s e es q) in
           absurd (let z : _≡_ {A = ℕ} 0 1 = cc in omega arith)
+
+  rest-all : (bs : List ℕ) → rest-after (length (parsed bs)) bs ≡ tail bs
+  unfolding rest-after tail
+  rest-all bs = rw (take-length (parsed bs))
+
+  -- the same by what becomes of the fold: every record is taken, or one is refused
+  pub folds-all : (s : S) (bs : List ℕ) → folded step s (parsed bs) .end ≡ Cut
+      → ran step s bs ≡ ended (folded step s (parsed bs) .state) (length (parsed bs)) (tail bs) (tail-end (tail bs))
+  unfolding after-fold
+  folds-all s bs c =
+      ran-folds s bs
+      ∙ rw (c, folded-all s (parsed bs) c, rest-all bs)
+
+  pub folds-refused : (s : S) (bs : List ℕ) (k : ℕ) → folded step s (parsed bs) .end ≡ Refused k
+      → ran step s bs ≡ ended (folded step s (parsed bs) .state) (folded step s (parsed bs) .count) (rest-after (folded step s (parsed bs) .count) bs) (Refused k)
+  unfolding after-fold
+  folds-refused s bs k c = ran-folds s bs ∙ rw c
+
+  -- a run that comes to the end of the bytes took every whole record, and no unknown mark follows
+  pub ran-to-end : (s : S) (bs : List ℕ) → ran step s bs .end ≡ Cut
+      → (folded step s (parsed bs) .end ≡ Cut)
+      × (ran step s bs ≡ ended (folded step s (parsed bs) .state) (length (parsed bs)) (tail bs) Cut)
+  unfolding after-fold
+  ran-to-end s bs c = go (folded step s (parsed bs) .end) refl
+    where
+      told : on-cut (folded step s (parsed bs) .end) (tail-end (tail bs)) (folded step s (parsed bs) .end) ≡ Cut
+      told = ap (λ (r : Run S). r .end) (sym (ran-folds s bs)) ∙ c
+
+      go : (x : End) → folded step s (parsed bs) .end ≡ x → (folded step s (parsed bs) .end ≡ Cut)
+          × (ran step s bs ≡ ended (folded step s (parsed bs) .state) (length (parsed bs)) (tail bs) Cut)
+      go Cut e =
+          let t : tail-end (tail bs) ≡ Cut = rw e at told in
+          (e, folds-all s bs e ∙ ap (ended (folded step s (parsed bs) .state) (length (parsed bs)) (tail bs)) t)
+      go (Refused k) e = absurd (let t = rw e at told in let z : _≡_ {A = ℕ} 0 1 = cc in omega arith)
+      go Left e = absurd (let t = rw e at told in let z : _≡_ {A = ℕ} 0 1 = cc in omega arith)

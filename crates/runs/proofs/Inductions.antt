@@ -37,3 +37,17 @@ module _ {S : Type 0} (step : S → Mark → List ℕ → Next S) (P : S → Lis
 
     pub by-run : (s : S) (bs : List ℕ) → P s bs (ran step s bs)
     by-run s bs = within (length bs) s bs (omega arith)
+
+-- the same over the bytes alone
+pub by-records : (P : List ℕ → Type 0)
+    → ((bs : List ℕ) → read bs ≡ is.Cut → P bs)
+    → ((bs : List ℕ) → read bs ≡ is.Unknown → P bs)
+    → ((bs : List ℕ) (m : Mark) → read bs ≡ is.Whole m → P (after m bs) → P bs)
+    → (bs : List ℕ) → P bs
+by-records P at-cut at-unknown at-whole =
+    by-run (λ (s : ℕ) m fs. goes s) (λ s bs r. P bs)
+    (λ s bs e. at-cut bs e)
+    (λ s bs e. at-unknown bs e)
+    (λ s bs m k e q. absurd (let z : _≡_ {A = ℕ} 0 1 = cc in omega arith))
+    (λ s bs m e q. absurd (let z : _≡_ {A = ℕ} 0 1 = cc in omega arith))
+    (λ s t bs m e q ih. at-whole bs m e ih) 0

@@ -7,3 +7,4 @@ pub mod Rests
 pub mod Joints
 pub mod Parses
 pub mod Folds
+pub mod Cuts
