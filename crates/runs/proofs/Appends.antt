@@ -11,7 +11,8 @@ use Rattle.marks.specs.declared.End.the-variants.{Cut, Refused, Left}
 use Rattle.marks.specs.Marks.{read, size, fields, after}
 use Rattle.marks.proofs.Readings.{whole-means, cut-short}
 use Rattle.marks.proofs.Parts.{whole-more, unknown-more, fields-more, after-more}
-use Rattle.runs.specs.Run.{Next, goes, stops, leaves, Run, ended, ran, counted, continued}
+use Rattle.runs.specs.Run.{Next, goes, stops, leaves, Run, ended, ran, counted}
+use Rattle.runs.specs.Follow.{continued}
 use Rattle.runs.proofs.Counts.{counted-none, counted-twice, counted-ended, counted-parts}
 use Rattle.runs.proofs.Turns.{ran-unknown, ran-goes, ran-stops, ran-leaves}
 use Rattle.runs.proofs.Inductions.{by-run}

@@ -10,7 +10,8 @@ use Rattle.marks.specs.declared.Record.the-variants as is
 use Rattle.marks.specs.declared.End.{End}
 use Rattle.marks.specs.declared.End.the-variants.{Cut, Refused, Left}
 use Rattle.marks.specs.Marks.{read, size, fields, after}
-use Rattle.runs.specs.Run.{Next, goes, stops, leaves, Run, ended, on-cut, ran, counted}
+use Rattle.runs.specs.Run.{Next, goes, stops, leaves, Run, ended, ran, counted}
+use Rattle.runs.specs.Follow.{on-cut}
 use Rattle.runs.specs.Parsed.{Entry, parsed, span, rest-after, tail, Folded, folded-on, folded, tail-end, after-fold}
 use Rattle.runs.proofs.Inductions.{by-run}
 use Rattle.runs.proofs.Parses.{parsed-cut, parsed-unknown, parsed-whole}

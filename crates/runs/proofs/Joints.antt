@@ -15,7 +15,8 @@ use Rattle.marks.specs.declared.End.the-variants.{Cut, Refused, Left}
 use Rattle.marks.specs.Marks.{read, size, fields, after}
 use Rattle.marks.proofs.Readings.{cut-short}
 use Rattle.marks.proofs.Parts.{whole-more, whole-less, unknown-more}
-use Rattle.runs.specs.Run.{Next, Run, ended, ran, counted, continued}
+use Rattle.runs.specs.Run.{Next, Run, ended, ran, counted}
+use Rattle.runs.specs.Follow.{continued}
 use Rattle.runs.proofs.Appends.{run-append, continued-cut, continued-refused, continued-left}
 use Rattle.runs.proofs.Rests.{rest-cut, none-taken, some-taken}
 

@@ -8,3 +8,4 @@ pub mod Joints
 pub mod Parses
 pub mod Folds
 pub mod Cuts
+pub mod Simulations

@@ -9,7 +9,8 @@ use Rattle.marks.specs.declared.Mark.{Mark}
 use Rattle.marks.specs.declared.End.{End}
 use Rattle.marks.specs.declared.End.the-variants.{Cut, Refused, Left}
 use Rattle.marks.specs.Marks.{read, size, fields, after}
-use Rattle.runs.specs.Run.{Next, Run, on-read, on-next, on-cut, ended}
+use Rattle.runs.specs.Run.{Next, Run, on-read, on-next, ended}
+use Rattle.runs.specs.Follow.{on-cut}
 
 pub record Entry : Type 0 where
   pub mark : Mark
