@@ -7,5 +7,7 @@ pub mod Rests
 pub mod Joints
 pub mod Parses
 pub mod Folds
+pub mod Withins
 pub mod Cuts
 pub mod Simulations
+pub mod Examples

@@ -57,6 +57,11 @@ module _ {S : Type 0} (step : S → Mark → List ℕ → Next S) where
       ∙ run-counts step (length bs) t 1 (after m bs)
       ∙ ap (counted 1) (run-more step (length bs) (length (after m bs)) t 0 (after m bs) (omega (arith, length-after m bs)) (omega arith))
 
+  -- a run with fuel enough
+  pub run-left : (f : ℕ) (s : S) (n : ℕ) (bs : List ℕ) → length bs ≤ f → run step f s n bs ≡ counted n (ran step s bs)
+  unfolding ran
+  run-left f s n bs h = run-counts step f s n bs ∙ ap (counted n) (run-more step f (length bs) s 0 bs h (omega arith))
+
   -- the loop's start, and one law for each way through its body
   pub run-start : (s : S) (bs : List ℕ) → ran step s bs ≡ counted 0 (ran step s (drop 0 bs))
   run-start s bs = sym (counted-none (ran step s bs))
