@@ -66,9 +66,9 @@ module _ {S : Type 0} (step : S → Mark → List ℕ → Next S) where
   pub run-start : (s : S) (bs : List ℕ) → ran step s bs ≡ counted 0 (ran step s (drop 0 bs))
   run-start s bs = sym (counted-none (ran step s bs))
 
-  pub run-goes : (s t : S) (n at : ℕ) (bs : List ℕ) (m : Mark) → read (drop at bs) ≡ is.Whole m → step s m (fields m (drop at bs)) ≡ goes t
+  pub run-goes : (at : ℕ) (bs : List ℕ) (s t : S) (n : ℕ) (m : Mark) → read (drop at bs) ≡ is.Whole m → step s m (fields m (drop at bs)) ≡ goes t
       → counted n (ran step s (drop at bs)) ≡ counted (n + 1) (ran step t (drop (at + (2 + size m)) bs))
-  run-goes s t n at bs m e q =
+  run-goes at bs s t n m e q =
       ap (counted n) (ran-goes s t (drop at bs) m e q ∙ ap (λ l. counted 1 (ran step t l)) (after-drop m at bs))
       ∙ counted-twice n 1 (ran step t (drop (at + (2 + size m)) bs))
 
