@@ -1,14 +1,14 @@
 -- What is kept by each of the five things that can be met is true of every run.
 use mathlib.Core.List.{List}
 use mathlib.Core.Path.{_≡_, sym, subst}
-use Prim.Native.Nat.{ℕ, zero, suc, _+_, _≤_}
+use Prim.Native.Nat.{ℕ, zero, suc, _≤_}
 use native.Mathlib.Omega.{arith}
 use lib.ListN.{length}
 use Rattle.marks.specs.declared.Mark.{Mark}
 use Rattle.marks.specs.declared.Record.the-variants as is
 use Rattle.marks.specs.declared.End.the-variants.{Cut, Refused, Left}
-use Rattle.marks.specs.Marks.{read, size, fields, after}
-use Rattle.marks.proofs.Readings.{read-short, whole-means}
+use Rattle.marks.specs.Marks.{read, fields, after}
+use Rattle.marks.proofs.Readings.{read-short}
 use Rattle.marks.proofs.Parts.{length-after}
 use Rattle.runs.specs.Run.{Next, goes, stops, leaves, Run, ended, ran, counted}
 use Rattle.runs.proofs.Fuels.{Met, cut, unknown, taken, refused, left, met}

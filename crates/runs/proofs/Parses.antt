@@ -1,15 +1,13 @@
 -- The list of whole records at the start of some bytes, one record at a time.
 use mathlib.Core.List.{List, [], _∷_}
 use mathlib.Core.Path.{_≡_, refl, sym, ap, _∙_}
-use Prim.Native.Nat.{ℕ, zero, suc, _+_, _-_, _≤_, _<_}
+use Prim.Native.Nat.{ℕ, zero, suc, _-_, _≤_}
 use native.Mathlib.Omega.{arith}
-use lib.ListN.{length, take, drop}
+use lib.ListN.{length}
 use Rattle.marks.specs.declared.Mark.{Mark}
 use Rattle.marks.specs.declared.Record.{Record}
 use Rattle.marks.specs.declared.Record.the-variants as is
-use Rattle.marks.specs.declared.End.{End}
-use Rattle.marks.specs.declared.End.the-variants.{Cut, Refused, Left}
-use Rattle.marks.specs.Marks.{read, size, fields, after}
+use Rattle.marks.specs.Marks.{read, fields, after}
 use Rattle.marks.proofs.Readings.{read-short}
 use Rattle.marks.proofs.Parts.{length-after}
 use Rattle.runs.specs.Parsed.{Entry, entries, parsed}

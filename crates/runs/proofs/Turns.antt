@@ -1,8 +1,8 @@
 -- The turns of a loop over records, for code that holds a place `at` and a count n. What is kept from turn to turn is
 -- `ran step first bs ≡ counted n (ran step s (drop at bs))`: the whole run is what is left to run, n records counted before.
 use mathlib.Core.List.{List}
-use mathlib.Core.Path.{_≡_, refl, sym, ap, _∙_}
-use Prim.Native.Nat.{ℕ, zero, suc, _+_, _-_, _≤_}
+use mathlib.Core.Path.{_≡_, sym, ap, _∙_}
+use Prim.Native.Nat.{ℕ, suc, _+_, _-_, _≤_}
 use native.Mathlib.Omega.{arith}
 use lib.ListN.{length, take, drop, length-drop}
 use lib.Seq.{take-all}
@@ -13,7 +13,7 @@ use Rattle.marks.specs.declared.End.the-variants.{Cut, Refused, Left}
 use Rattle.marks.specs.Marks.{read, size, fields, after}
 use Rattle.marks.proofs.Readings.{whole-means}
 use Rattle.marks.proofs.Parts.{length-after, length-fields, after-drop}
-use Rattle.runs.specs.Run.{Next, goes, stops, leaves, Run, ended, run, ran, counted}
+use Rattle.runs.specs.Run.{Next, goes, stops, leaves, ended, run, ran, counted}
 use Rattle.runs.proofs.Fuels.{turn-cut, turn-unknown, turn-goes, turn-stops, turn-leaves}
 use Rattle.runs.proofs.Counts.{counted-none, counted-ended, counted-twice, run-counts, run-more}
 
