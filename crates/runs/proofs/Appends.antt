@@ -1,17 +1,16 @@
 -- Bytes that come behind: a run over some bytes and a run over what it left, with more behind, are the run over all.
-use mathlib.Core.List.{List, [], _++_, append-assoc}
-use mathlib.Core.Path.{_≡_, refl, sym, ap, subst, _∙_}
-use Prim.Native.Nat.{ℕ, zero, suc, _+_, _-_, _≤_, _<_}
-use native.Mathlib.Omega.{arith}
-use lib.ListN.{length, take, drop, length-append}
+use mathlib.Core.List.{List, _++_}
+use mathlib.Core.Path.{_≡_, refl, sym, ap, _∙_}
+use Prim.Native.Nat.{ℕ, _+_, _-_}
 use Rattle.marks.specs.declared.Mark.{Mark}
 use Rattle.marks.specs.declared.Record.the-variants as is
 use Rattle.marks.specs.declared.End.{End}
 use Rattle.marks.specs.declared.End.the-variants.{Cut, Refused, Left}
-use Rattle.marks.specs.Marks.{read, size, fields, after}
-use Rattle.marks.proofs.Readings.{whole-means, cut-short}
+use Rattle.marks.specs.Marks.{read, fields, after}
+use Rattle.marks.proofs.Readings.{whole-means}
 use Rattle.marks.proofs.Parts.{whole-more, unknown-more, fields-more, after-more}
-use Rattle.runs.specs.Run.{Next, goes, stops, leaves, Run, ended, ran, counted, continued}
+use Rattle.runs.specs.Run.{Next, Run, ended, ran, counted}
+use Rattle.runs.specs.Follow.{continued}
 use Rattle.runs.proofs.Counts.{counted-none, counted-twice, counted-ended, counted-parts}
 use Rattle.runs.proofs.Turns.{ran-unknown, ran-goes, ran-stops, ran-leaves}
 use Rattle.runs.proofs.Inductions.{by-run}

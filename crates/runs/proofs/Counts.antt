@@ -5,10 +5,9 @@ use Prim.Native.Nat.{ℕ, zero, suc, _+_, _≤_}
 use native.Mathlib.Omega.{arith}
 use lib.ListN.{length}
 use Rattle.marks.specs.declared.Mark.{Mark}
-use Rattle.marks.specs.declared.Record.the-variants as is
 use Rattle.marks.specs.declared.End.{End}
 use Rattle.marks.specs.declared.End.the-variants.{Cut, Refused, Left}
-use Rattle.marks.specs.Marks.{read, after}
+use Rattle.marks.specs.Marks.{after}
 use Rattle.marks.proofs.Readings.{read-short}
 use Rattle.marks.proofs.Parts.{length-after}
 use Rattle.runs.specs.Run.{Next, Run, ended, run, counted}

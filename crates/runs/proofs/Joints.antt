@@ -1,8 +1,8 @@
 -- A rest that is less than one record, and a piece that comes behind it. The code first runs over the joint, which is the rest with
 -- the first 22 bytes of the piece; no record is longer. Once a record was taken there, it goes on in the piece itself.
-use mathlib.Core.List.{List, [], _++_, append-assoc}
-use mathlib.Core.Path.{_≡_, refl, sym, ap, subst, _∙_}
-use Prim.Native.Nat.{ℕ, zero, suc, _+_, _-_, _≤_, _<_}
+use mathlib.Core.List.{List, _++_, append-assoc}
+use mathlib.Core.Path.{_≡_, refl, sym, ap, _∙_}
+use Prim.Native.Nat.{ℕ, _+_, _-_, _≤_, _<_}
 use native.Mathlib.Decide.{decLe}
 use native.Mathlib.Omega.{arith}
 use lib.ListN.{length, take, drop, length-append, length-take, length-drop, take-append-drop}
@@ -12,10 +12,11 @@ use Rattle.marks.specs.declared.Record.{Record}
 use Rattle.marks.specs.declared.Record.the-variants as is
 use Rattle.marks.specs.declared.End.{End}
 use Rattle.marks.specs.declared.End.the-variants.{Cut, Refused, Left}
-use Rattle.marks.specs.Marks.{read, size, fields, after}
+use Rattle.marks.specs.Marks.{read, size}
 use Rattle.marks.proofs.Readings.{cut-short}
 use Rattle.marks.proofs.Parts.{whole-more, whole-less, unknown-more}
-use Rattle.runs.specs.Run.{Next, Run, ended, ran, counted, continued}
+use Rattle.runs.specs.Run.{Next, Run, ended, ran, counted}
+use Rattle.runs.specs.Follow.{continued}
 use Rattle.runs.proofs.Appends.{run-append, continued-cut, continued-refused, continued-left}
 use Rattle.runs.proofs.Rests.{rest-cut, none-taken, some-taken}
 

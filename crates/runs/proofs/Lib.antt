@@ -5,3 +5,9 @@ pub mod Inductions
 pub mod Appends
 pub mod Rests
 pub mod Joints
+pub mod Parses
+pub mod Folds
+pub mod Withins
+pub mod Cuts
+pub mod Simulations
+pub mod Examples

@@ -1,17 +1,17 @@
 -- What a run leaves: the end of the bytes; after a run to the end, less than one record.
 use mathlib.Core.List.{List, [], _++_, append-assoc}
 use mathlib.Core.Path.{_≡_, refl, sym, ap, _∙_}
-use Prim.Native.Nat.{ℕ, zero, suc, _+_, _-_, _≤_, _<_}
+use Prim.Native.Nat.{ℕ, _+_, _-_, _≤_, _<_}
 use native.Mathlib.Omega.{arith}
 use lib.ListN.{length, take, drop, length-append, take-append-drop}
 use lib.Seq.{drop-at}
 use Rattle.marks.specs.declared.Mark.{Mark}
 use Rattle.marks.specs.declared.Record.the-variants as is
-use Rattle.marks.specs.declared.End.the-variants.{Cut, Refused, Left}
-use Rattle.marks.specs.Marks.{read, size, fields, after}
+use Rattle.marks.specs.declared.End.the-variants.{Cut}
+use Rattle.marks.specs.Marks.{read, size, after}
 use Rattle.marks.proofs.Readings.{whole-means, cut-short}
 use Rattle.marks.proofs.Parts.{length-after}
-use Rattle.runs.specs.Run.{Next, Run, ended, ran, counted}
+use Rattle.runs.specs.Run.{Next, ended, ran, counted}
 use Rattle.runs.proofs.Inductions.{by-run}
 
 module _ {S : Type 0} (step : S → Mark → List ℕ → Next S) where

@@ -1,1 +1,3 @@
 pub mod Run
+pub mod Follow
+pub mod Parsed

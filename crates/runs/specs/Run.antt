@@ -1,6 +1,6 @@
 -- A loop over the records of some bytes. Document 01, "The journal": records are taken in order up to the first refusal, the bytes
 -- after the last whole record are left.
-use mathlib.Core.List.{List, _++_}
+use mathlib.Core.List.{List}
 use Prim.Native.Nat.{ℕ, zero, suc, _+_}
 use lib.ListN.{length}
 use Rattle.marks.specs.declared.Mark.{Mark}
@@ -51,14 +51,3 @@ ran step s bs = run step (length bs) s 0 bs
 -- the same run, n records taken before it
 unfoldable pub counted : {S : Type 0} → ℕ → Run S → Run S
 counted n r = record { state = r .state; count = n + r .count; rest = r .rest; end = r .end }
-
--- the one where a run came to the end of the bytes, the other where a record ended it
-abbrev pub on-cut : {A : Type 0} → End → A → A → A
-on-cut Cut a d = a
-on-cut (Refused k) a d = d
-on-cut Left a d = d
-
--- a run over some bytes once b comes behind them: it goes on where it came to their end, else b is left too
-unfoldable pub continued : {S : Type 0} → (S → Mark → List ℕ → Next S) → List ℕ → Run S → Run S
-continued step b r =
-    on-cut (r .end) (counted (r .count) (ran step (r .state) (r .rest ++ b))) (ended (r .state) (r .count) (r .rest ++ b) (r .end))
