@@ -11,3 +11,4 @@ pub mod Withins
 pub mod Cuts
 pub mod Simulations
 pub mod Examples
+pub mod Lefts

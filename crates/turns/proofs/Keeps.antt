@@ -58,7 +58,7 @@ on-then Q R e (goes s) left f q l = f s q
 on-then Q R e (stops k) left f q l = tt
 on-then Q R e leaves left f q l = l
 
-paired-few : (p : Pairs) → p .count ≤ 256 → (m : Mark) (fs : List ℕ) → Then (λ (q : Pairs). q .count ≤ 256) (paired p m fs)
+pub paired-few : (p : Pairs) → p .count ≤ 256 → (m : Mark) (fs : List ℕ) → Then (λ (q : Pairs). q .count ≤ 256) (paired p m fs)
 unfolding paired
 paired-few p h Vt fs = go (leb 256 (p .count)) refl
   where
@@ -75,7 +75,7 @@ added-shaped : (t : BlockTable) → Shaped t → (fs : List ℕ) → Shaped (add
 unfolding added
 added-shaped t s fs = step-keeps t s (word fs 0) (word fs 4)
 
-grown-shaped : (t : BlockTable) → Shaped t → (m : Mark) (fs : List ℕ) → Then Shaped (grown t m fs)
+pub grown-shaped : (t : BlockTable) → Shaped t → (m : Mark) (fs : List ℕ) → Then Shaped (grown t m fs)
 unfolding grown
 grown-shaped t s Bk fs = go (added t fs .answer)
   where
@@ -99,7 +99,7 @@ module _ (P : Frame → Held → Type 0)
   next-has f h turn.Goes p = p
   next-has f h (turn.Stops n) p = tt
 
-  voted-has : (r : Voting) → Q r → (m : Mark) (fs : List ℕ) → Then Q (voted r m fs)
+  pub voted-has : (r : Voting) → Q r → (m : Mark) (fs : List ℕ) → Then Q (voted r m fs)
   unfolding voted counted added
   voted-has r q Bk fs = next-has _ (r .held) (grown-of (added (r .frame .table) fs .answer)) (adds (r .frame) (r .held) q (word fs 0) (word fs 4))
   voted-has r q Pv fs = next-has (r .frame) _ (turn-of (import (r .frame) Prevote (word fs 0) (pair-in fs) (r .held) .answer)) (votes (r .frame) (r .held) q Prevote (word fs 0) (pair-in fs))
