@@ -2,3 +2,4 @@ pub mod Fuels
 pub mod Counts
 pub mod Turns
 pub mod Inductions
+pub mod Loops
