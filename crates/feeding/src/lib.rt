@@ -5,7 +5,12 @@ ghost use mathlib.Core.List.{_++_};
 ghost use Prim.Native.Nat.{_+_, _≤_};
 ghost use lib.ListN.{length, take, drop};
 ghost use Rattle.weights.specs.Weights.{plus};
-ghost use Rattle.journal.specs.Journal.{run-of};
+ghost use lib.Dec.{T};
+ghost use Rattle.held_laws.specs.Kept.{Kept};
+ghost use Rattle.marks.specs.declared.End.the-variants.{Cut};
+ghost use Rattle.turns.specs.Stands.{Stands};
+ghost use Rattle.journal.specs.Journal.{told, run-of};
+ghost use Rattle.feeding.specs.Feeding.{bytes-of, rest-stands, kept-rest, after-run, started, replayed, went, stands, fed, joint-of};
 use journal::Journal;
 use journal::Progress;
 use marks::End;
@@ -65,7 +70,10 @@ fn more(records: u64, count: u64) -> u64
 }
 
 // The replay after a run over some bytes.
-fn after(records: u64, progress: Progress, bytes: &[u8]) -> Replay {
+fn after(records: u64, progress: Progress, bytes: &[u8]) -> Replay
+    requires { ⌜ (progress .at ≤ length (now bytes)) × (progress .end ≡ Cut → length (drop (progress .at) (now bytes)) ≤ 22) ⌝ }
+    ensures { λ r. ⌜ r ≡ after-run records (run-of progress (now (bytes .entry))) ⌝ }
+{
     let end = progress.end;
     let journal = progress.journal;
     let seen = more(records, progress.count);
@@ -101,13 +109,18 @@ fn after(records: u64, progress: Progress, bytes: &[u8]) -> Replay {
 }
 
 // A whole journal.
-pub fn replay(bytes: &[u8]) -> Replay {
+pub fn replay(bytes: &[u8]) -> Replay
+    ensures { λ r. ⌜ r ≡ replayed (now (bytes .entry)) ⌝ }
+{
     let pairs = journal::no_pairs();
     after(0, journal::from_voters(pairs, bytes), bytes)
 }
 
 // What is left of a piece, and the start of the next one: with 22 bytes of it at hand any record is whole.
-fn join(rest: Rest, piece: &[u8]) -> Joint {
+fn join(rest: Rest, piece: &[u8]) -> Joint
+    requires { ⌜ rest .count ≤ 22 ⌝ }
+    ensures { λ r. ⌜ r ≡ joint-of rest (now (piece .entry)) ⌝ }
+{
     let mut both = [0u8; 44];
     let count = rest.count;
     bytes::copy(&rest.bytes[..count], &mut both);
@@ -125,7 +138,11 @@ fn join(rest: Rest, piece: &[u8]) -> Joint {
     }
 }
 
-fn went(journal: Journal, rest: Rest, records: u64, piece: &[u8]) -> Replay {
+// A piece behind the bytes that were left.
+fn went(journal: Journal, rest: Rest, records: u64, piece: &[u8]) -> Replay
+    requires { ⌜ Stands Kept (told journal) × T (rest-stands rest) ⌝ }
+    ensures { λ r. ⌜ r ≡ went journal rest records (now (piece .entry)) ⌝ }
+{
     if rest.count == 0 {
         return after(records, journal.run(piece), piece);
     }
@@ -148,7 +165,9 @@ fn went(journal: Journal, rest: Rest, records: u64, piece: &[u8]) -> Replay {
     }
 }
 
-fn is_rest(rest: Rest) -> bool {
+fn is_rest(rest: Rest) -> bool
+    ensures { λ r. ⌜ r ≡ rest-stands rest ⌝ }
+{
     if 22 < rest.count {
         return false;
     }
@@ -161,7 +180,9 @@ fn is_rest(rest: Rest) -> bool {
 
 impl Replay {
     // Before the first record.
-    pub fn new() -> Replay {
+    pub fn new() -> Replay
+        ensures { λ r. ⌜ r ≡ started ⌝ }
+    {
         let pairs = journal::no_pairs();
         let journal = journal::with_pairs(pairs);
         Replay {
@@ -176,7 +197,9 @@ impl Replay {
     }
 
     // Whether a state that is handed in can go on.
-    pub fn is_replay(self) -> bool {
+    pub fn is_replay(self) -> bool
+        ensures { λ r. ⌜ r ≡ stands self ⌝ }
+    {
         let journal = self.journal;
         let rest = self.rest;
         if !journal.is_journal() {
@@ -186,7 +209,9 @@ impl Replay {
     }
 
     // The next piece of the journal's bytes. A replay that has stopped stays as it is.
-    pub fn feed(self, piece: &[u8]) -> Fed {
+    pub fn feed(self, piece: &[u8]) -> Fed
+        ensures { λ r. ⌜ r ≡ fed self (now (piece .entry)) ⌝ }
+    {
         if !self.is_replay() {
             return Fed {
                 answer: Stop::Refused(9),

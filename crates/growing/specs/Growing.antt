@@ -8,18 +8,18 @@ use Rattle.blocks.specs.declared.Added.{Added}
 use Rattle.blocks.specs.Add.{step}
 use Rattle.marks.specs.declared.Mark.{Mark}
 use Rattle.marks.specs.declared.Mark.the-variants.{Vt, Rt, Bk, Op, Pv, Pc}
+use Rattle.marks.specs.declared.Turn.{Turn}
 use Rattle.marks.specs.Marks.{word}
 use Rattle.runs.specs.Run.{Next, goes, stops, leaves}
-use Rattle.growing.specs.declared.Next as code
-use Rattle.growing.specs.declared.Next.the-variants as next
+use Rattle.runs.specs.Tried.{taken-or-not}
 
 -- a Bk record: a block, and its parent
 unfoldable pub added : BlockTable → List ℕ → Added
 added t fs = step t (word fs 0) (word fs 4)
 
-abbrev pub answered : BlockTable → Answer → Next BlockTable
-answered t (Placed k) = goes t
-answered t (Refused n) = stops n
+abbrev pub answered : {S : Type 0} → S → Answer → Next S
+answered s (Placed k) = goes s
+answered s (Refused n) = stops n
 
 -- a record in the second turn; the Op ends it
 unfoldable pub grown : BlockTable → Mark → List ℕ → Next BlockTable
@@ -30,8 +30,6 @@ grown t Rt fs = stops 18
 grown t Pv fs = stops 18
 grown t Pc fs = stops 18
 
--- the code's answer, with the columns beside it
-abbrev pub next-of : List ℕ → List ℕ → List ℕ → code.Next → Next BlockTable
-next-of ids numbers parents (next.Goes n) = goes (record { ids = ids; numbers = numbers; parents = parents; count = n })
-next-of ids numbers parents (next.Stops n) = stops n
-next-of ids numbers parents next.Leaves = leaves
+-- whether the loop goes on after an answer
+abbrev pub turn-of : Answer → Turn
+turn-of a = taken-or-not {S = Unit {0}} tt (answered tt a) .turn

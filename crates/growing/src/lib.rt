@@ -2,21 +2,23 @@
 ghost use mathlib.Core.Path.{_≡_};
 ghost use Prim.Native.Nat.{_≤_};
 ghost use lib.ListN.{length, drop};
+ghost use Rattle.marks.specs.declared.Mark.the-variants.{Bk};
+ghost use Rattle.marks.specs.declared.Turn.the-variants.{Over};
 ghost use Rattle.marks.specs.Marks.{size};
 ghost use Rattle.runs.specs.Run.{Run, ran};
-ghost use Rattle.blocks.specs.declared.Added.{Added};
-ghost use Rattle.blocks.specs.Add.{table-of, counted};
-ghost use Rattle.growing.specs.Growing.{added, grown, next-of};
+ghost use Rattle.runs.specs.Tried.{Tried, tried};
+ghost use Rattle.blocks.specs.declared.BlockTable.{BlockTable};
+ghost use Rattle.growing.specs.Growing.{grown, turn-of};
 use blocks::Answer;
 use marks::End;
 use marks::Mark;
 use marks::Record;
+use marks::Turn;
 
-// What becomes of the count at a record.
-pub enum Next {
-    Goes(usize),
-    Stops(u8),
-    Leaves,
+// The blocks after a record, and whether the turn goes on.
+pub struct Took {
+    pub turn: Turn,
+    pub blocks: usize,
 }
 
 // The blocks after a run over some bytes, the records taken, the bytes that they have, and why no more are taken.
@@ -27,20 +29,44 @@ pub struct Grown {
     pub end: End,
 }
 
+// The turn is over at a record, which leaves the blocks as they are.
+fn over(end: End, blocks: usize) -> Took
+    ensures { λ r. ⌜ r ≡ record { turn = Over end; blocks = blocks } ⌝ }
+{
+    Took {
+        turn: Turn::Over(end),
+        blocks,
+    }
+}
+
+fn turn(answer: Answer) -> Turn
+    ensures { λ r. ⌜ r ≡ turn-of answer ⌝ }
+{
+    match answer {
+        Answer::Placed(_) => Turn::Goes,
+        Answer::Refused(number) => Turn::Over(End::Refused(number)),
+    }
+}
+
 // A Bk record: a block, and its parent.
 pub fn add(
     ids: &mut [u32; 256],
     numbers: &mut [u32; 256],
     parents: &mut [u8; 256],
-    count: usize,
+    blocks: usize,
     fields: &[u8],
-) -> Answer
-    requires { ⌜ (count ≤ 256) × (length (now fields) ≡ 8) ⌝ }
-    ensures { λ r. ⌜ _≡_ {A = Added} (record { answer = r; table = table-of (now (ids .exit)) (now (numbers .exit)) (now (parents .exit)) (counted count r) }) (added (table-of (now (ids .entry)) (now (numbers .entry)) (now (parents .entry)) count) (now (fields .entry))) ⌝ }
+) -> Took
+    requires { ⌜ (blocks ≤ 256) × (length (now fields) ≡ 8) ⌝ }
+    ensures { λ r. ⌜ _≡_ {A = Tried BlockTable} (record { state = record { ids = now (ids .exit); numbers = now (numbers .exit); parents = now (parents .exit); count = r .blocks }; turn = r .turn }) (tried grown (record { ids = now (ids .entry); numbers = now (numbers .entry); parents = now (parents .entry); count = blocks }) Bk (now (fields .entry))) ⌝ }
+    ensures { λ r. ⌜ r .blocks ≤ 256 ⌝ }
 {
     let id = marks::word(fields, 0);
     let parent = marks::word(fields, 4);
-    blocks::add(ids, numbers, parents, count, id, parent)
+    let answer = blocks::add(ids, numbers, parents, blocks, id, parent);
+    Took {
+        turn: turn(answer),
+        blocks: blocks::counted(blocks, answer),
+    }
 }
 
 // A record in the second turn.
@@ -48,23 +74,21 @@ fn take(
     ids: &mut [u32; 256],
     numbers: &mut [u32; 256],
     parents: &mut [u8; 256],
-    count: usize,
+    blocks: usize,
     mark: Mark,
     fields: &[u8],
-) -> Next
-    requires { ⌜ (count ≤ 256) × (length (now fields) ≡ size mark) ⌝ }
-    ensures { λ r. ⌜ next-of (now (ids .exit)) (now (numbers .exit)) (now (parents .exit)) r ≡ grown (record { ids = now (ids .entry); numbers = now (numbers .entry); parents = now (parents .entry); count = count }) mark (now (fields .entry)) ⌝ }
+) -> Took
+    requires { ⌜ (blocks ≤ 256) × (length (now fields) ≡ size mark) ⌝ }
+    ensures { λ r. ⌜ _≡_ {A = Tried BlockTable} (record { state = record { ids = now (ids .exit); numbers = now (numbers .exit); parents = now (parents .exit); count = r .blocks }; turn = r .turn }) (tried grown (record { ids = now (ids .entry); numbers = now (numbers .entry); parents = now (parents .entry); count = blocks }) mark (now (fields .entry))) ⌝ }
+    ensures { λ r. ⌜ r .blocks ≤ 256 ⌝ }
 {
     match mark {
-        Mark::Bk => match add(ids, numbers, parents, count, fields) {
-            Answer::Placed(_) => Next::Goes(count + 1),
-            Answer::Refused(number) => Next::Stops(number),
-        },
-        Mark::Op => Next::Leaves,
-        Mark::Vt => Next::Stops(18),
-        Mark::Rt => Next::Stops(18),
-        Mark::Pv => Next::Stops(18),
-        Mark::Pc => Next::Stops(18),
+        Mark::Bk => add(ids, numbers, parents, blocks, fields),
+        Mark::Op => over(End::Left, blocks),
+        Mark::Vt => over(End::Refused(18), blocks),
+        Mark::Rt => over(End::Refused(18), blocks),
+        Mark::Pv => over(End::Refused(18), blocks),
+        Mark::Pc => over(End::Refused(18), blocks),
     }
 }
 
@@ -77,8 +101,8 @@ pub fn run(
     bytes: &[u8],
 ) -> Grown
     requires { ⌜ count ≤ 256 ⌝ }
-    ensures { λ r. ⌜ _≡_ {A = Run _} (record { state = record { ids = now (ids .exit); numbers = now (numbers .exit); parents = now (parents .exit); count = r .blocks }; count = r .count; rest = drop (r .at) (now (bytes .entry)); end = r .end }) (ran grown (record { ids = now (ids .entry); numbers = now (numbers .entry); parents = now (parents .entry); count = count }) (now (bytes .entry))) ⌝ }
-    ensures { λ r. ⌜ (r .blocks ≤ 256) × (r .at ≤ length (now (bytes .entry))) ⌝ }
+    ensures { λ r. ⌜ _≡_ {A = Run BlockTable} (record { state = record { ids = now (ids .exit); numbers = now (numbers .exit); parents = now (parents .exit); count = r .blocks }; count = r .count; rest = drop (r .at) (now (bytes .entry)); end = r .end }) (ran grown (record { ids = now (ids .entry); numbers = now (numbers .entry); parents = now (parents .entry); count = count }) (now (bytes .entry))) ⌝ }
+    ensures { λ r. ⌜ (r .blocks ≤ 256) × (r .count ≤ r .at) × (r .at ≤ length (now (bytes .entry))) ⌝ }
 {
     let mut blocks = count;
     let mut taken = 0u64;
@@ -94,26 +118,20 @@ pub fn run(
             };
         };
         let fields = marks::fields(part, mark);
-        match take(ids, numbers, parents, blocks, mark, fields) {
-            Next::Goes(more) => {
-                blocks = more;
+        let took = take(ids, numbers, parents, blocks, mark, fields);
+        let turn = took.turn;
+        blocks = took.blocks;
+        match turn {
+            Turn::Goes => {
                 taken = taken + 1;
                 at = at + 2 + fields.len();
             }
-            Next::Stops(number) => {
+            Turn::Over(end) => {
                 return Grown {
                     blocks,
                     count: taken,
                     at,
-                    end: End::Refused(number),
-                };
-            }
-            Next::Leaves => {
-                return Grown {
-                    blocks,
-                    count: taken,
-                    at,
-                    end: End::Left,
+                    end,
                 };
             }
         }

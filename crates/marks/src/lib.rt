@@ -33,6 +33,12 @@ pub enum End {
     Left,
 }
 
+// What a record does to a loop over records: it goes on after the record, or is over at it.
+pub enum Turn {
+    Goes,
+    Over(End),
+}
+
 fn wide(b: u8) -> u32
     ensures { λ r. ⌜ (r ≡ b) × (r < 256) ⌝ }
 {

@@ -9,8 +9,6 @@ use Rattle.marks.specs.declared.Mark.the-variants.{Vt, Rt, Bk, Op, Pv, Pc}
 use Rattle.marks.specs.Marks.{word, long}
 use Rattle.runs.specs.Run.{Next, goes, stops, leaves}
 use Rattle.pairing.specs.declared.Pairs.{Pairs}
-use Rattle.pairing.specs.declared.Next as code
-use Rattle.pairing.specs.declared.Next.the-variants as next
 
 -- one more pair, after those before
 abbrev pub with-pair : Pairs → ℕ → ℕ → Pairs
@@ -25,9 +23,3 @@ paired p Bk fs = stops 18
 paired p Op fs = stops 18
 paired p Pv fs = stops 18
 paired p Pc fs = stops 18
-
--- the code's answer, with the columns beside it
-abbrev pub next-of : List ℕ → List ℕ → code.Next → Next Pairs
-next-of ids weights (next.Goes n) = goes (record { ids = ids; weights = weights; count = n })
-next-of ids weights (next.Stops n) = stops n
-next-of ids weights next.Leaves = leaves
