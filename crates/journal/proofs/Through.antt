@@ -12,7 +12,7 @@ use Rattle.blocks.specs.declared.Answer.the-variants as answer
 use Rattle.blocks.specs.declared.Answer.the-variants.{Placed}
 use Rattle.block_shape.specs.Shape.{Shaped}
 use Rattle.context.specs.declared.Phase.the-variants.{Prevote, Precommit}
-use Rattle.importing.specs.Import.{Frame, Held, import}
+use Rattle.importing.specs.Import.{import}
 use Rattle.held_laws.specs.Kept.{Kept}
 use Rattle.held_laws.proofs.Opens.{opened-kept}
 use Rattle.held_laws.proofs.Keeps.{import-keeps}
@@ -30,10 +30,10 @@ use Rattle.runs.proofs.Lefts.{left-leaves}
 use Rattle.pairing.specs.declared.Pairs.{Pairs}
 use Rattle.pairing.specs.Pairing.{with-pair, paired}
 use Rattle.growing.specs.Growing.{added, answered, grown}
-use Rattle.voting.specs.declared.Turn.{Turn}
-use Rattle.voting.specs.declared.Turn.the-variants as turn
+use Rattle.judging.specs.declared.ImportResult.{ImportResult}
+use Rattle.judging.specs.declared.ImportResult.the-variants as result
 use Rattle.voting.specs.Voting as votes
-use Rattle.voting.specs.Voting.{Voting, pair-in, turn-of, grown-of, next-of, voted}
+use Rattle.voting.specs.Voting.{Voting, pair-in, with-blocks, voted}
 use Rattle.turns.specs.Turns as turns
 use Rattle.turns.specs.Turns.{pairing, growing, voting, rooted, based, took}
 use Rattle.turns.proofs.Keeps.{Then, paired-few, grown-shaped, voted-has}
@@ -76,6 +76,9 @@ module _ {S : Type 0} (step : S → Mark → List ℕ → Next S) (e : S → tur
 apart : {A : Type 0} {S : Type 0} (k : ℕ) → _≡_ {A = Next S} (stops k) leaves → A
 apart k e = absurd (let z : _≡_ {A = ℕ} 0 1 = cc in omega arith)
 
+gone : {A : Type 0} {S : Type 0} (s : S) → _≡_ {A = Next S} (goes s) leaves → A
+gone s e = absurd (let z : _≡_ {A = ℕ} 0 1 = cc in omega arith)
+
 paired-left : (p : Pairs) (m : Mark) (fs : List ℕ) → paired p m fs ≡ leaves → m ≡ Rt
 unfolding paired
 paired-left p Rt fs e = refl
@@ -83,7 +86,7 @@ paired-left p Vt fs e = go (leb 256 (p .count)) e
   where
     go : (b : Bool) → cond b (stops 1) (goes (with-pair p (word fs 0) (long fs 4))) ≡ leaves → Vt ≡ Rt
     go true e = apart 1 e
-    go false e = absurd (let z : _≡_ {A = ℕ} 0 1 = cc in omega arith)
+    go false e = gone _ e
 paired-left p Bk fs e = apart 18 e
 paired-left p Op fs e = apart 18 e
 paired-left p Pv fs e = apart 18 e
@@ -95,22 +98,30 @@ grown-left t Op fs e = refl
 grown-left t Bk fs e = go (added t fs .answer) e
   where
     go : (a : Answer) → answered (added t fs .table) a ≡ leaves → Bk ≡ Op
-    go (Placed k) e = absurd (let z : _≡_ {A = ℕ} 0 1 = cc in omega arith)
+    go (Placed k) e = gone _ e
     go (answer.Refused n) e = apart n e
 grown-left t Vt fs e = apart 18 e
 grown-left t Rt fs e = apart 18 e
 grown-left t Pv fs e = apart 18 e
 grown-left t Pc fs e = apart 18 e
 
-next-goes : (f : Frame) (h : Held) (t : Turn) → next-of f h t ≡ leaves → ⊥
-next-goes f h turn.Goes e = absurd (let z : _≡_ {A = ℕ} 0 1 = cc in omega arith)
-next-goes f h (turn.Stops n) e = apart n e
+answered-goes : (r : Voting) (a : ImportResult) → votes.answered r a ≡ leaves → ⊥
+answered-goes r (result.Refused n) e = apart n e
+answered-goes r result.Outside e = gone r e
+answered-goes r result.Counted e = gone r e
+answered-goes r result.Duplicated e = gone r e
+answered-goes r (result.Equivocated x) e = gone r e
+answered-goes r result.Ignored e = gone r e
 
 voted-goes : (r : Voting) (m : Mark) (fs : List ℕ) → voted r m fs ≡ leaves → ⊥
-unfolding voted votes.counted
-voted-goes r Bk fs e = next-goes _ (r .held) (grown-of (added (r .frame .table) fs .answer)) e
-voted-goes r Pv fs e = next-goes (r .frame) _ (turn-of (import (r .frame) Prevote (word fs 0) (pair-in fs) (r .held) .answer)) e
-voted-goes r Pc fs e = next-goes (r .frame) _ (turn-of (import (r .frame) Precommit (word fs 0) (pair-in fs) (r .held) .answer)) e
+unfolding voted votes.counted grown
+voted-goes r Bk fs e = go (added (r .frame .table) fs .answer) e
+  where
+    go : (a : Answer) → with-blocks r (answered (added (r .frame .table) fs .table) a) ≡ leaves → ⊥
+    go (Placed k) e = gone _ e
+    go (answer.Refused n) e = apart n e
+voted-goes r Pv fs e = answered-goes _ (import (r .frame) Prevote (word fs 0) (pair-in fs) (r .held) .answer) e
+voted-goes r Pc fs e = answered-goes _ (import (r .frame) Precommit (word fs 0) (pair-in fs) (r .held) .answer) e
 voted-goes r Vt fs e = apart 18 e
 voted-goes r Rt fs e = apart 18 e
 voted-goes r Op fs e = apart 18 e

@@ -40,9 +40,10 @@ use Rattle.runs.specs.Run.{Next, goes, stops, leaves, on-next}
 use Rattle.pairing.specs.declared.Pairs.{Pairs}
 use Rattle.pairing.specs.Pairing.{with-pair, paired}
 use Rattle.growing.specs.Growing.{added, answered, grown}
-use Rattle.voting.specs.declared.Turn.{Turn}
-use Rattle.voting.specs.declared.Turn.the-variants as turn
-use Rattle.voting.specs.Voting.{Voting, pair-in, turn-of, grown-of, next-of, counted, voted}
+use Rattle.judging.specs.declared.ImportResult.{ImportResult}
+use Rattle.judging.specs.declared.ImportResult.the-variants as result
+use Rattle.voting.specs.Voting as vote
+use Rattle.voting.specs.Voting.{Voting, pair-in, counted, with-blocks, voted}
 use Rattle.turns.specs.Turns.{Journal, pairing, growing, voting, seated, rooted, opened-round, based, took}
 use Rattle.turns.specs.Stands.{Stands}
 
@@ -95,15 +96,23 @@ module _ (P : Frame → Held → Type 0)
   abbrev Q : Voting → Type 0
   Q r = P (r .frame) (r .held)
 
-  next-has : (f : Frame) (h : Held) (t : Turn) → P f h → Then Q (next-of f h t)
-  next-has f h turn.Goes p = p
-  next-has f h (turn.Stops n) p = tt
+  answered-has : (r : Voting) (a : ImportResult) → Q r → Then Q (vote.answered r a)
+  answered-has r (result.Refused n) q = tt
+  answered-has r result.Outside q = q
+  answered-has r result.Counted q = q
+  answered-has r result.Duplicated q = q
+  answered-has r (result.Equivocated e) q = q
+  answered-has r result.Ignored q = q
 
   pub voted-has : (r : Voting) → Q r → (m : Mark) (fs : List ℕ) → Then Q (voted r m fs)
-  unfolding voted counted added
-  voted-has r q Bk fs = next-has _ (r .held) (grown-of (added (r .frame .table) fs .answer)) (adds (r .frame) (r .held) q (word fs 0) (word fs 4))
-  voted-has r q Pv fs = next-has (r .frame) _ (turn-of (import (r .frame) Prevote (word fs 0) (pair-in fs) (r .held) .answer)) (votes (r .frame) (r .held) q Prevote (word fs 0) (pair-in fs))
-  voted-has r q Pc fs = next-has (r .frame) _ (turn-of (import (r .frame) Precommit (word fs 0) (pair-in fs) (r .held) .answer)) (votes (r .frame) (r .held) q Precommit (word fs 0) (pair-in fs))
+  unfolding voted counted grown added
+  voted-has r q Bk fs = go (step (r .frame .table) (word fs 0) (word fs 4) .answer)
+    where
+      go : (a : block.Answer) → Then Q (with-blocks r (answered (step (r .frame .table) (word fs 0) (word fs 4) .table) a))
+      go (answer.Placed k) = adds (r .frame) (r .held) q (word fs 0) (word fs 4)
+      go (answer.Refused n) = tt
+  voted-has r q Pv fs = answered-has _ (import (r .frame) Prevote (word fs 0) (pair-in fs) (r .held) .answer) (votes (r .frame) (r .held) q Prevote (word fs 0) (pair-in fs))
+  voted-has r q Pc fs = answered-has _ (import (r .frame) Precommit (word fs 0) (pair-in fs) (r .held) .answer) (votes (r .frame) (r .held) q Precommit (word fs 0) (pair-in fs))
   voted-has r q Vt fs = tt
   voted-has r q Rt fs = tt
   voted-has r q Op fs = tt
