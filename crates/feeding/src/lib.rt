@@ -150,14 +150,13 @@ fn went(journal: Journal, rest: Rest, records: u64, piece: &[u8]) -> Replay
     let joint = join(rest, piece);
     let first = journal.run(&joint.bytes[..joint.count]);
     let end = first.end;
-    let told = first.journal;
-    let at = first.at;
-    if at == 0 {
-        return after(records, first, &joint.bytes[..joint.count]);
-    }
     match end {
         End::Cut => {
-            let part = &piece[at - count..];
+            if first.count == 0 {
+                return after(records, first, &joint.bytes[..joint.count]);
+            }
+            let told = first.journal;
+            let part = &piece[first.at - count..];
             after(more(records, first.count), told.run(part), part)
         }
         End::Refused(_) => after(records, first, &joint.bytes[..joint.count]),
