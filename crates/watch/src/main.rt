@@ -43,8 +43,13 @@ fn show(replay: Replay, mark: Mark) {
     }
 }
 
-// The whole records of some bytes, one by one, then what is left of them.
-fn follow(before: Replay, bytes: &[u8]) -> Replay {
+struct Followed {
+    replay: Replay,
+    at: usize,
+}
+
+// The whole records of some bytes, one by one.
+fn follow(before: Replay, bytes: &[u8]) -> Followed {
     let mut replay = before;
     let mut at = 0;
     loop {
@@ -58,13 +63,37 @@ fn follow(before: Replay, bytes: &[u8]) -> Replay {
         show(replay, mark);
         at = at + size;
     }
-    let fed = replay.feed(&bytes[at..]);
-    fed.replay
+    Followed { replay, at }
+}
+
+// What is left of some bytes comes to their start.
+fn shift(space: &mut [u8; 65536], at: usize, end: usize) -> usize {
+    let mut to = 0;
+    let mut from = at;
+    while from < end {
+        if 65536 <= from {
+            break;
+        }
+        space[to] = space[from];
+        to += 1;
+        from += 1;
+    }
+    to
 }
 
 fn main() {
-    let mut space = [0u8; 4194304];
-    let got = io::read_full(STDIN_FILENO, &mut space);
-    let replay = follow(Replay::new(), &space[..got]);
-    print(replay, 0);
+    let mut space = io::large_buffer();
+    let mut replay = Replay::new();
+    let mut kept = 0;
+    loop {
+        let got = io::read_full(STDIN_FILENO, &mut space[kept..]);
+        if got == 0 {
+            break;
+        }
+        let followed = follow(replay, &space[..kept + got]);
+        replay = followed.replay;
+        kept = shift(&mut space, followed.at, kept + got);
+    }
+    let fed = replay.feed(&space[..kept]);
+    print(fed.replay, 0);
 }
