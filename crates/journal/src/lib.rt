@@ -128,13 +128,14 @@ fn from_votes(round: Round, bytes: &[u8]) -> Progress
     let mut seconds = votes.seconds;
     let history = round.history;
     let mut entries = history.entries;
+    let equivocations = context.equivocations;
     let heard = round.heard;
     let answers = round.answers;
     let standing = Standing {
         listed: graph.listed,
         tips: graph.tips,
         count: history.count,
-        equivocations: context.equivocations,
+        equivocations,
         heard,
         answers,
     };
@@ -166,6 +167,7 @@ fn from_votes(round: Round, bytes: &[u8]) -> Progress
         bytes,
     );
     let after = ran.standing;
+    let equivocations_after = after.equivocations;
     let heard_after = after.heard;
     let answers_after = after.answers;
     let end = ran.end;
@@ -198,7 +200,7 @@ fn from_votes(round: Round, bytes: &[u8]) -> Progress
         number: round.number,
         context: Context {
             voters,
-            equivocations: after.equivocations,
+            equivocations: equivocations_after,
         },
         table: table_after,
         graph: graph_after,
@@ -260,19 +262,20 @@ fn from_blocks(voters: VoterSet, table: BlockTable, bytes: &[u8]) -> Progress
         parents,
         count: ran.blocks,
     };
+    let at = ran.at;
     let end = ran.end;
     match end {
-        End::Left => later(ran.count, ran.at, open(voters, grown, &bytes[ran.at..])),
+        End::Left => later(ran.count, at, open(voters, grown, &bytes[at..])),
         End::Cut => Progress {
             journal: with_blocks(voters, grown),
             count: ran.count,
-            at: ran.at,
+            at,
             end: End::Cut,
         },
         End::Refused(number) => Progress {
             journal: with_blocks(voters, grown),
             count: ran.count,
-            at: ran.at,
+            at,
             end: End::Refused(number),
         },
     }
@@ -285,7 +288,9 @@ fn root(pairs: Pairs, part: &[u8]) -> Progress
 {
     let fields = marks::fields(part, Mark::Rt);
     let count = pairs.count;
-    let made = VoterSet::new(&pairs.ids[..count], &pairs.weights[..count]);
+    let ids = pairs.ids;
+    let weights = pairs.weights;
+    let made = VoterSet::new(&ids[..count], &weights[..count]);
     let answer = made.answer;
     let voters = made.voters;
     match answer {
@@ -315,19 +320,20 @@ pub fn from_voters(pairs: Pairs, bytes: &[u8]) -> Progress
         weights,
         count: ran.pairs,
     };
+    let at = ran.at;
     let end = ran.end;
     match end {
-        End::Left => later(ran.count, ran.at, root(paired, &bytes[ran.at..])),
+        End::Left => later(ran.count, at, root(paired, &bytes[at..])),
         End::Cut => Progress {
             journal: with_pairs(paired),
             count: ran.count,
-            at: ran.at,
+            at,
             end: End::Cut,
         },
         End::Refused(number) => Progress {
             journal: with_pairs(paired),
             count: ran.count,
-            at: ran.at,
+            at,
             end: End::Refused(number),
         },
     }
