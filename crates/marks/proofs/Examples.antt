@@ -3,12 +3,11 @@
 use mathlib.Core.List.{List, [], _∷_, _++_}
 use mathlib.Core.Path.{_≡_, refl}
 use Prim.Native.Nat.{ℕ, _+_}
-use lib.ListN.{length, replicate, take}
-use Rattle.marks.specs.declared.Mark.{Mark}
+use lib.ListN.{length, take}
 use Rattle.marks.specs.declared.Mark.the-variants.{Vt, Rt, Bk, Op, Pv, Pc}
 use Rattle.marks.specs.declared.Named.the-variants as name
 use Rattle.marks.specs.declared.Record.the-variants as is
-use Rattle.marks.specs.Marks.{letters, named, size, read, fields, after, word, long}
+use Rattle.marks.specs.Marks.{named, size, read, fields, after, word, long}
 
 -- what the six marks name, as the code's numbers
 pub six-marks :

@@ -1,13 +1,13 @@
 -- A record among the bytes around it: its fields, what comes after it, and bytes added behind.
 use mathlib.Core.List.{List, _++_}
-use mathlib.Core.Path.{_≡_, sym, _∙_}
-use Prim.Native.Nat.{ℕ, _+_, _-_, _≤_, _<_}
+use mathlib.Core.Path.{_≡_}
+use Prim.Native.Nat.{ℕ, _+_, _-_, _≤_}
 use native.Mathlib.Omega.{arith}
-use lib.ListN.{length, take, drop, length-append, length-take, length-drop, List·getD-append}
+use lib.ListN.{length, drop, length-append, length-take, length-drop, List·getD-append}
 use lib.Seq.{take-append-le, drop-append-le, drop-drop}
 use Rattle.marks.specs.declared.Mark.{Mark}
 use Rattle.marks.specs.declared.Record.the-variants as is
-use Rattle.marks.specs.Marks.{named, size, read, fields, after}
+use Rattle.marks.specs.Marks.{size, read, fields, after}
 use Rattle.marks.proofs.Readings.{mark-at, read-unknown, read-whole, whole-means, unknown-means}
 
 pub length-fields : (m : Mark) (bs : List ℕ) → 2 + size m ≤ length bs → length (fields m bs) ≡ size m
@@ -32,6 +32,10 @@ whole-more a b m e =
     let w = whole-means a m e in
     let l = w .1 in
     read-whole (a ++ b) m (rw (mark-more a b (omega arith)) (w .0)) (omega (arith, length-append a b))
+
+-- a record whose bytes all stand in a is whole in a
+pub whole-less : (a b : List ℕ) (m : Mark) → read (a ++ b) ≡ is.Whole m → 2 + size m ≤ length a → read a ≡ is.Whole m
+whole-less a b m e l = read-whole a m (rw (mark-more a b (omega arith)) at (whole-means (a ++ b) m e .0)) l
 
 pub unknown-more : (a b : List ℕ) → read a ≡ is.Unknown → read (a ++ b) ≡ is.Unknown
 unknown-more a b e =

@@ -5,10 +5,9 @@ use Prim.Native.Nat.{ℕ, zero, suc, _+_, _≤_}
 use native.Mathlib.Omega.{arith}
 use lib.ListN.{length}
 use Rattle.marks.specs.declared.Mark.{Mark}
-use Rattle.marks.specs.declared.Record.the-variants as is
 use Rattle.marks.specs.declared.End.{End}
 use Rattle.marks.specs.declared.End.the-variants.{Cut, Refused, Left}
-use Rattle.marks.specs.Marks.{read, after}
+use Rattle.marks.specs.Marks.{after}
 use Rattle.marks.proofs.Readings.{read-short}
 use Rattle.marks.proofs.Parts.{length-after}
 use Rattle.runs.specs.Run.{Next, Run, ended, run, counted}
@@ -25,6 +24,10 @@ counted-twice m n r = ap (λ k. record { state = r .state; count = k; rest = r .
 pub counted-ended : {S : Type 0} (m n : ℕ) (s : S) (bs : List ℕ) (e : End) → counted m (ended s n bs e) ≡ ended s (m + n) bs e
 unfolding counted
 counted-ended m n s bs e = refl
+
+pub counted-parts : {S : Type 0} (n : ℕ) (r : Run S) → counted n r ≡ ended (r .state) (n + r .count) (r .rest) (r .end)
+unfolding counted
+counted-parts n r = refl
 
 module _ {S : Type 0} (step : S → Mark → List ℕ → Next S) where
   pub run-counts : (f : ℕ) (s : S) (n : ℕ) (bs : List ℕ) → run step f s n bs ≡ counted n (run step f s 0 bs)

@@ -1,13 +1,13 @@
 -- What can be met at the start of some bytes, and what one turn of `run` makes of it, with fuel left.
 use mathlib.Core.List.{List}
 use mathlib.Core.Path.{_≡_, refl}
-use Prim.Native.Nat.{ℕ, zero, suc, _+_, _≤_}
+use Prim.Native.Nat.{ℕ, zero, suc, _+_}
 use Rattle.marks.specs.declared.Mark.{Mark}
 use Rattle.marks.specs.declared.Record.{Record}
 use Rattle.marks.specs.declared.Record.the-variants as is
 use Rattle.marks.specs.declared.End.the-variants.{Cut, Refused, Left}
 use Rattle.marks.specs.Marks.{read, fields, after}
-use Rattle.runs.specs.Run.{Next, goes, stops, leaves, Run, ended, run}
+use Rattle.runs.specs.Run.{Next, goes, stops, leaves, ended, run}
 
 module _ {S : Type 0} (step : S → Mark → List ℕ → Next S) where
   pub data Met (s : S) (bs : List ℕ) : Type 0 where

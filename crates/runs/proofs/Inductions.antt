@@ -1,14 +1,14 @@
 -- What is kept by each of the five things that can be met is true of every run.
 use mathlib.Core.List.{List}
 use mathlib.Core.Path.{_≡_, sym, subst}
-use Prim.Native.Nat.{ℕ, zero, suc, _+_, _≤_}
+use Prim.Native.Nat.{ℕ, zero, suc, _≤_}
 use native.Mathlib.Omega.{arith}
 use lib.ListN.{length}
 use Rattle.marks.specs.declared.Mark.{Mark}
 use Rattle.marks.specs.declared.Record.the-variants as is
 use Rattle.marks.specs.declared.End.the-variants.{Cut, Refused, Left}
-use Rattle.marks.specs.Marks.{read, size, fields, after}
-use Rattle.marks.proofs.Readings.{read-short, whole-means}
+use Rattle.marks.specs.Marks.{read, fields, after}
+use Rattle.marks.proofs.Readings.{read-short}
 use Rattle.marks.proofs.Parts.{length-after}
 use Rattle.runs.specs.Run.{Next, goes, stops, leaves, Run, ended, ran, counted}
 use Rattle.runs.proofs.Fuels.{Met, cut, unknown, taken, refused, left, met}
@@ -37,3 +37,17 @@ module _ {S : Type 0} (step : S → Mark → List ℕ → Next S) (P : S → Lis
 
     pub by-run : (s : S) (bs : List ℕ) → P s bs (ran step s bs)
     by-run s bs = within (length bs) s bs (omega arith)
+
+-- the same over the bytes alone
+pub by-records : (P : List ℕ → Type 0)
+    → ((bs : List ℕ) → read bs ≡ is.Cut → P bs)
+    → ((bs : List ℕ) → read bs ≡ is.Unknown → P bs)
+    → ((bs : List ℕ) (m : Mark) → read bs ≡ is.Whole m → P (after m bs) → P bs)
+    → (bs : List ℕ) → P bs
+by-records P at-cut at-unknown at-whole =
+    by-run (λ (s : ℕ) m fs. goes s) (λ s bs r. P bs)
+    (λ s bs e. at-cut bs e)
+    (λ s bs e. at-unknown bs e)
+    (λ s bs m k e q. absurd (let z : _≡_ {A = ℕ} 0 1 = cc in omega arith))
+    (λ s bs m e q. absurd (let z : _≡_ {A = ℕ} 0 1 = cc in omega arith))
+    (λ s t bs m e q ih. at-whole bs m e ih) 0

@@ -73,7 +73,7 @@ module _ {S : Type 0} (step : S → Mark → List ℕ → Next S) where
         fewer = omega arith;
         left =
             g .left
-            ∙ run-goes step s t n at bs m r (ap (step s m) (ap (fields m) (sym d) ∙ sym f) ∙ q)
+            ∙ run-goes step at bs s t n m r (ap (step s m) (ap (fields m) (sym d) ∙ sym f) ∙ q)
             ∙ ap (λ k. counted (n + 1) (ran step t (drop k bs))) (sym z);
       }
 

@@ -1,8 +1,8 @@
 -- The turns of a loop over records, for code that holds a place `at` and a count n. What is kept from turn to turn is
 -- `ran step first bs ≡ counted n (ran step s (drop at bs))`: the whole run is what is left to run, n records counted before.
 use mathlib.Core.List.{List}
-use mathlib.Core.Path.{_≡_, refl, sym, ap, _∙_}
-use Prim.Native.Nat.{ℕ, zero, suc, _+_, _-_, _≤_}
+use mathlib.Core.Path.{_≡_, sym, ap, _∙_}
+use Prim.Native.Nat.{ℕ, suc, _+_, _-_, _≤_}
 use native.Mathlib.Omega.{arith}
 use lib.ListN.{length, take, drop, length-drop}
 use lib.Seq.{take-all}
@@ -13,7 +13,7 @@ use Rattle.marks.specs.declared.End.the-variants.{Cut, Refused, Left}
 use Rattle.marks.specs.Marks.{read, size, fields, after}
 use Rattle.marks.proofs.Readings.{whole-means}
 use Rattle.marks.proofs.Parts.{length-after, length-fields, after-drop}
-use Rattle.runs.specs.Run.{Next, goes, stops, leaves, Run, ended, run, ran, counted}
+use Rattle.runs.specs.Run.{Next, goes, stops, leaves, ended, run, ran, counted}
 use Rattle.runs.proofs.Fuels.{turn-cut, turn-unknown, turn-goes, turn-stops, turn-leaves}
 use Rattle.runs.proofs.Counts.{counted-none, counted-ended, counted-twice, run-counts, run-more}
 
@@ -57,13 +57,18 @@ module _ {S : Type 0} (step : S → Mark → List ℕ → Next S) where
       ∙ run-counts step (length bs) t 1 (after m bs)
       ∙ ap (counted 1) (run-more step (length bs) (length (after m bs)) t 0 (after m bs) (omega (arith, length-after m bs)) (omega arith))
 
+  -- a run with fuel enough
+  pub run-left : (f : ℕ) (s : S) (n : ℕ) (bs : List ℕ) → length bs ≤ f → run step f s n bs ≡ counted n (ran step s bs)
+  unfolding ran
+  run-left f s n bs h = run-counts step f s n bs ∙ ap (counted n) (run-more step f (length bs) s 0 bs h (omega arith))
+
   -- the loop's start, and one law for each way through its body
   pub run-start : (s : S) (bs : List ℕ) → ran step s bs ≡ counted 0 (ran step s (drop 0 bs))
   run-start s bs = sym (counted-none (ran step s bs))
 
-  pub run-goes : (s t : S) (n at : ℕ) (bs : List ℕ) (m : Mark) → read (drop at bs) ≡ is.Whole m → step s m (fields m (drop at bs)) ≡ goes t
+  pub run-goes : (at : ℕ) (bs : List ℕ) (s t : S) (n : ℕ) (m : Mark) → read (drop at bs) ≡ is.Whole m → step s m (fields m (drop at bs)) ≡ goes t
       → counted n (ran step s (drop at bs)) ≡ counted (n + 1) (ran step t (drop (at + (2 + size m)) bs))
-  run-goes s t n at bs m e q =
+  run-goes at bs s t n m e q =
       ap (counted n) (ran-goes s t (drop at bs) m e q ∙ ap (λ l. counted 1 (ran step t l)) (after-drop m at bs))
       ∙ counted-twice n 1 (ran step t (drop (at + (2 + size m)) bs))
 

@@ -1,2 +1,4 @@
 pub mod Run
 pub mod Tried
+pub mod Follow
+pub mod Parsed

@@ -1,4 +1,3 @@
-use borrow.Author.Needs.{needs}
 use borrow.Author.Tests.{ne-eqb}
 use Rattle.marks.specs.Marks.{named}
 use Rattle.marks.proofs.name.Statement.{statement}
