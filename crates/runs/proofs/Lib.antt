@@ -2,6 +2,7 @@ pub mod Fuels
 pub mod Counts
 pub mod Turns
 pub mod Inductions
+pub mod Loops
 pub mod Appends
 pub mod Rests
 pub mod Joints
@@ -12,4 +13,3 @@ pub mod Cuts
 pub mod Simulations
 pub mod Examples
 pub mod Lefts
-pub mod Loops

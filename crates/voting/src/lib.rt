@@ -4,31 +4,27 @@ ghost use mathlib.Core.Path.{_≡_};
 ghost use Prim.Native.Nat.{_≤_};
 ghost use lib.ListN.{length, drop};
 ghost use Rattle.held_laws.specs.Kept.{Kept};
-ghost use Rattle.marks.specs.Marks.{size};
+ghost use Rattle.marks.specs.Marks as marks;
 ghost use Rattle.runs.specs.Run.{Run, ran};
-ghost use Rattle.voting.specs.Voting.{Voting, pair-in, turn-of, grown-of, voted, counted, next-of, out-of-turn};
-use blocks::Answer;
+ghost use Rattle.runs.specs.Tried.{Tried, tried};
+ghost use Rattle.voting.specs.Voting.{Voting, pair-in, turn-of, mark-of, voted};
 use context::Phase;
 use importing::Standing;
 use judging::ImportResult;
 use marks::End;
 use marks::Mark;
 use marks::Record;
+use marks::Turn;
 use tracker::Pair;
 
-pub enum Turn {
-    Goes,
-    Stops(u8),
+// What a record leaves beside the columns, and whether the turn goes on.
+struct Took {
+    turn: Turn,
+    blocks: usize,
+    standing: Standing,
 }
 
-// What a record leaves beside the columns.
-pub struct Took {
-    pub answer: Turn,
-    pub blocks: usize,
-    pub standing: Standing,
-}
-
-// The same after a run over some bytes: the records taken, the bytes that they have, and why no more are taken.
+// What a run over some bytes leaves, the records taken, the bytes that they have, and why no more are taken.
 pub struct Ran {
     pub blocks: usize,
     pub standing: Standing,
@@ -54,21 +50,12 @@ fn turn(answer: ImportResult) -> Turn
     ensures { λ r. ⌜ r ≡ turn-of answer ⌝ }
 {
     match answer {
-        ImportResult::Refused(number) => Turn::Stops(number),
+        ImportResult::Refused(number) => Turn::Over(End::Refused(number)),
         ImportResult::Outside => Turn::Goes,
         ImportResult::Counted => Turn::Goes,
         ImportResult::Duplicated => Turn::Goes,
         ImportResult::Equivocated(_) => Turn::Goes,
         ImportResult::Ignored => Turn::Goes,
-    }
-}
-
-fn grown(answer: Answer) -> Turn
-    ensures { λ r. ⌜ r ≡ grown-of answer ⌝ }
-{
-    match answer {
-        Answer::Placed(_) => Turn::Goes,
-        Answer::Refused(number) => Turn::Stops(number),
     }
 }
 
@@ -102,7 +89,7 @@ fn vote<'a>(
     fields: &[u8],
 ) -> Took
     requires { ⌜ Kept (record { number = number; voters = record { ids = now voters; weights = now weights; count = size; threshold = threshold; total = total }; table = record { ids = now ids; numbers = now heights; parents = now parents; count = blocks }; base = base }) (record { graph = record { used = now used; above = now above; rows = now rows; order = now order; listed = standing .listed; heads = now heads; tips = standing .tips }; votes = record { times = now times; places = now places; signatures = now signatures; targets = now targets; numbers = now numbers; seconds = now seconds }; entries = now entries; count = standing .count; equivocations = standing .equivocations; heard = standing .heard; answers = standing .answers }) × (length (now fields) ≡ 20) ⌝ }
-    ensures { λ r. ⌜ next-of (record { number = number; voters = record { ids = now (voters .entry); weights = now (weights .entry); count = size; threshold = threshold; total = total }; table = record { ids = now (ids .entry); numbers = now (heights .entry); parents = now (parents .entry); count = r .blocks }; base = base }) (record { graph = record { used = now (used .exit); above = now (above .exit); rows = now (rows .exit); order = now (order .exit); listed = r .standing .listed; heads = now (heads .exit); tips = r .standing .tips }; votes = record { times = now (times .exit); places = now (places .exit); signatures = now (signatures .exit); targets = now (targets .exit); numbers = now (numbers .exit); seconds = now (seconds .exit) }; entries = now (entries .exit); count = r .standing .count; equivocations = r .standing .equivocations; heard = r .standing .heard; answers = r .standing .answers }) (r .answer) ≡ counted phase (record { number = number; voters = record { ids = now (voters .entry); weights = now (weights .entry); count = size; threshold = threshold; total = total }; table = record { ids = now (ids .entry); numbers = now (heights .entry); parents = now (parents .entry); count = blocks }; base = base }) (record { graph = record { used = now (used .entry); above = now (above .entry); rows = now (rows .entry); order = now (order .entry); listed = standing .listed; heads = now (heads .entry); tips = standing .tips }; votes = record { times = now (times .entry); places = now (places .entry); signatures = now (signatures .entry); targets = now (targets .entry); numbers = now (numbers .entry); seconds = now (seconds .entry) }; entries = now (entries .entry); count = standing .count; equivocations = standing .equivocations; heard = standing .heard; answers = standing .answers }) (now (fields .entry)) ⌝ }
+    ensures { λ r. ⌜ _≡_ {A = Tried Voting} (record { state = record { frame = record { number = number; voters = record { ids = now (voters .entry); weights = now (weights .entry); count = size; threshold = threshold; total = total }; table = record { ids = now (ids .entry); numbers = now (heights .entry); parents = now (parents .entry); count = r .blocks }; base = base }; held = record { graph = record { used = now (used .exit); above = now (above .exit); rows = now (rows .exit); order = now (order .exit); listed = r .standing .listed; heads = now (heads .exit); tips = r .standing .tips }; votes = record { times = now (times .exit); places = now (places .exit); signatures = now (signatures .exit); targets = now (targets .exit); numbers = now (numbers .exit); seconds = now (seconds .exit) }; entries = now (entries .exit); count = r .standing .count; equivocations = r .standing .equivocations; heard = r .standing .heard; answers = r .standing .answers } }; turn = r .turn }) (tried voted (record { frame = record { number = number; voters = record { ids = now (voters .entry); weights = now (weights .entry); count = size; threshold = threshold; total = total }; table = record { ids = now (ids .entry); numbers = now (heights .entry); parents = now (parents .entry); count = blocks }; base = base }; held = record { graph = record { used = now (used .entry); above = now (above .entry); rows = now (rows .entry); order = now (order .entry); listed = standing .listed; heads = now (heads .entry); tips = standing .tips }; votes = record { times = now (times .entry); places = now (places .entry); signatures = now (signatures .entry); targets = now (targets .entry); numbers = now (numbers .entry); seconds = now (seconds .entry) }; entries = now (entries .entry); count = standing .count; equivocations = standing .equivocations; heard = standing .heard; answers = standing .answers } }) (mark-of phase) (now (fields .entry))) ⌝ }
 {
     let signer = marks::word(fields, 0);
     let cast = pair(fields);
@@ -138,7 +125,7 @@ fn vote<'a>(
     let answer = step.answer;
     let standing = step.standing;
     Took {
-        answer: turn(answer),
+        turn: turn(answer),
         blocks,
         standing,
     }
@@ -173,15 +160,16 @@ fn take<'a>(
     mark: Mark,
     fields: &[u8],
 ) -> Took
-    requires { ⌜ Kept (record { number = number; voters = record { ids = now voters; weights = now weights; count = size; threshold = threshold; total = total }; table = record { ids = now ids; numbers = now heights; parents = now parents; count = blocks }; base = base }) (record { graph = record { used = now used; above = now above; rows = now rows; order = now order; listed = standing .listed; heads = now heads; tips = standing .tips }; votes = record { times = now times; places = now places; signatures = now signatures; targets = now targets; numbers = now numbers; seconds = now seconds }; entries = now entries; count = standing .count; equivocations = standing .equivocations; heard = standing .heard; answers = standing .answers }) × (length (now fields) ≡ size mark) ⌝ }
-    ensures { λ r. ⌜ next-of (record { number = number; voters = record { ids = now (voters .entry); weights = now (weights .entry); count = size; threshold = threshold; total = total }; table = record { ids = now (ids .exit); numbers = now (heights .exit); parents = now (parents .exit); count = r .blocks }; base = base }) (record { graph = record { used = now (used .exit); above = now (above .exit); rows = now (rows .exit); order = now (order .exit); listed = r .standing .listed; heads = now (heads .exit); tips = r .standing .tips }; votes = record { times = now (times .exit); places = now (places .exit); signatures = now (signatures .exit); targets = now (targets .exit); numbers = now (numbers .exit); seconds = now (seconds .exit) }; entries = now (entries .exit); count = r .standing .count; equivocations = r .standing .equivocations; heard = r .standing .heard; answers = r .standing .answers }) (r .answer) ≡ voted (record { frame = record { number = number; voters = record { ids = now (voters .entry); weights = now (weights .entry); count = size; threshold = threshold; total = total }; table = record { ids = now (ids .entry); numbers = now (heights .entry); parents = now (parents .entry); count = blocks }; base = base }; held = record { graph = record { used = now (used .entry); above = now (above .entry); rows = now (rows .entry); order = now (order .entry); listed = standing .listed; heads = now (heads .entry); tips = standing .tips }; votes = record { times = now (times .entry); places = now (places .entry); signatures = now (signatures .entry); targets = now (targets .entry); numbers = now (numbers .entry); seconds = now (seconds .entry) }; entries = now (entries .entry); count = standing .count; equivocations = standing .equivocations; heard = standing .heard; answers = standing .answers } }) mark (now (fields .entry)) ⌝ }
+    requires { ⌜ Kept (record { number = number; voters = record { ids = now voters; weights = now weights; count = size; threshold = threshold; total = total }; table = record { ids = now ids; numbers = now heights; parents = now parents; count = blocks }; base = base }) (record { graph = record { used = now used; above = now above; rows = now rows; order = now order; listed = standing .listed; heads = now heads; tips = standing .tips }; votes = record { times = now times; places = now places; signatures = now signatures; targets = now targets; numbers = now numbers; seconds = now seconds }; entries = now entries; count = standing .count; equivocations = standing .equivocations; heard = standing .heard; answers = standing .answers }) × (length (now fields) ≡ marks.size mark) ⌝ }
+    ensures { λ r. ⌜ _≡_ {A = Tried Voting} (record { state = record { frame = record { number = number; voters = record { ids = now (voters .entry); weights = now (weights .entry); count = size; threshold = threshold; total = total }; table = record { ids = now (ids .exit); numbers = now (heights .exit); parents = now (parents .exit); count = r .blocks }; base = base }; held = record { graph = record { used = now (used .exit); above = now (above .exit); rows = now (rows .exit); order = now (order .exit); listed = r .standing .listed; heads = now (heads .exit); tips = r .standing .tips }; votes = record { times = now (times .exit); places = now (places .exit); signatures = now (signatures .exit); targets = now (targets .exit); numbers = now (numbers .exit); seconds = now (seconds .exit) }; entries = now (entries .exit); count = r .standing .count; equivocations = r .standing .equivocations; heard = r .standing .heard; answers = r .standing .answers } }; turn = r .turn }) (tried voted (record { frame = record { number = number; voters = record { ids = now (voters .entry); weights = now (weights .entry); count = size; threshold = threshold; total = total }; table = record { ids = now (ids .entry); numbers = now (heights .entry); parents = now (parents .entry); count = blocks }; base = base }; held = record { graph = record { used = now (used .entry); above = now (above .entry); rows = now (rows .entry); order = now (order .entry); listed = standing .listed; heads = now (heads .entry); tips = standing .tips }; votes = record { times = now (times .entry); places = now (places .entry); signatures = now (signatures .entry); targets = now (targets .entry); numbers = now (numbers .entry); seconds = now (seconds .entry) }; entries = now (entries .entry); count = standing .count; equivocations = standing .equivocations; heard = standing .heard; answers = standing .answers } }) mark (now (fields .entry))) ⌝ }
 {
     match mark {
         Mark::Bk => {
-            let answer = growing::add(ids, heights, parents, blocks, fields);
+            let took = growing::add(ids, heights, parents, blocks, fields);
+            let turn = took.turn;
             Took {
-                answer: grown(answer),
-                blocks: blocks::counted(blocks, answer),
+                turn,
+                blocks: took.blocks,
                 standing,
             }
         }
@@ -241,19 +229,21 @@ fn take<'a>(
             Phase::Precommit,
             fields,
         ),
-        Mark::Vt => out_of_turn(blocks, standing),
-        Mark::Rt => out_of_turn(blocks, standing),
-        Mark::Op => out_of_turn(blocks, standing),
-    }
-}
-
-fn out_of_turn(blocks: usize, standing: Standing) -> Took
-    ensures { λ r. ⌜ r ≡ out-of-turn blocks standing ⌝ }
-{
-    Took {
-        answer: Turn::Stops(18),
-        blocks,
-        standing,
+        Mark::Vt => Took {
+            turn: Turn::Over(End::Refused(18)),
+            blocks,
+            standing,
+        },
+        Mark::Rt => Took {
+            turn: Turn::Over(End::Refused(18)),
+            blocks,
+            standing,
+        },
+        Mark::Op => Took {
+            turn: Turn::Over(End::Refused(18)),
+            blocks,
+            standing,
+        },
     }
 }
 
@@ -287,18 +277,19 @@ pub fn run<'a>(
 ) -> Ran
     requires { ⌜ Kept (record { number = number; voters = record { ids = now voters; weights = now weights; count = size; threshold = threshold; total = total }; table = record { ids = now ids; numbers = now heights; parents = now parents; count = blocks }; base = base }) (record { graph = record { used = now used; above = now above; rows = now rows; order = now order; listed = standing .listed; heads = now heads; tips = standing .tips }; votes = record { times = now times; places = now places; signatures = now signatures; targets = now targets; numbers = now numbers; seconds = now seconds }; entries = now entries; count = standing .count; equivocations = standing .equivocations; heard = standing .heard; answers = standing .answers }) ⌝ }
     ensures { λ r. ⌜ _≡_ {A = Run Voting} (record { state = record { frame = record { number = number; voters = record { ids = now (voters .entry); weights = now (weights .entry); count = size; threshold = threshold; total = total }; table = record { ids = now (ids .exit); numbers = now (heights .exit); parents = now (parents .exit); count = r .blocks }; base = base }; held = record { graph = record { used = now (used .exit); above = now (above .exit); rows = now (rows .exit); order = now (order .exit); listed = r .standing .listed; heads = now (heads .exit); tips = r .standing .tips }; votes = record { times = now (times .exit); places = now (places .exit); signatures = now (signatures .exit); targets = now (targets .exit); numbers = now (numbers .exit); seconds = now (seconds .exit) }; entries = now (entries .exit); count = r .standing .count; equivocations = r .standing .equivocations; heard = r .standing .heard; answers = r .standing .answers } }; count = r .count; rest = drop (r .at) (now (bytes .entry)); end = r .end }) (ran voted (record { frame = record { number = number; voters = record { ids = now (voters .entry); weights = now (weights .entry); count = size; threshold = threshold; total = total }; table = record { ids = now (ids .entry); numbers = now (heights .entry); parents = now (parents .entry); count = blocks }; base = base }; held = record { graph = record { used = now (used .entry); above = now (above .entry); rows = now (rows .entry); order = now (order .entry); listed = standing .listed; heads = now (heads .entry); tips = standing .tips }; votes = record { times = now (times .entry); places = now (places .entry); signatures = now (signatures .entry); targets = now (targets .entry); numbers = now (numbers .entry); seconds = now (seconds .entry) }; entries = now (entries .entry); count = standing .count; equivocations = standing .equivocations; heard = standing .heard; answers = standing .answers } }) (now (bytes .entry))) ⌝ }
-    ensures { λ r. ⌜ r .at ≤ length (now (bytes .entry)) ⌝ }
+    ensures { λ r. ⌜ (r .count ≤ r .at) × (r .at ≤ length (now (bytes .entry))) ⌝ }
+    ensures { λ r. ⌜ Kept (record { number = number; voters = record { ids = now (voters .entry); weights = now (weights .entry); count = size; threshold = threshold; total = total }; table = record { ids = now (ids .exit); numbers = now (heights .exit); parents = now (parents .exit); count = r .blocks }; base = base }) (record { graph = record { used = now (used .exit); above = now (above .exit); rows = now (rows .exit); order = now (order .exit); listed = r .standing .listed; heads = now (heads .exit); tips = r .standing .tips }; votes = record { times = now (times .exit); places = now (places .exit); signatures = now (signatures .exit); targets = now (targets .exit); numbers = now (numbers .exit); seconds = now (seconds .exit) }; entries = now (entries .exit); count = r .standing .count; equivocations = r .standing .equivocations; heard = r .standing .heard; answers = r .standing .answers }) ⌝ }
 {
-    let mut size_now = blocks;
-    let mut stand = standing;
+    let mut grown = blocks;
+    let mut standing = standing;
     let mut taken = 0u64;
     let mut at = 0;
     loop {
         let part = &bytes[at..];
         let Record::Whole(mark) = marks::read(part) else {
             return Ran {
-                blocks: size_now,
-                standing: stand,
+                blocks: grown,
+                standing,
                 count: taken,
                 at,
                 end: marks::ending(part),
@@ -315,7 +306,7 @@ pub fn run<'a>(
             ids,
             heights,
             parents,
-            size_now,
+            grown,
             base,
             used,
             above,
@@ -329,24 +320,25 @@ pub fn run<'a>(
             numbers,
             seconds,
             entries,
-            stand,
+            standing,
             mark,
             fields,
         );
-        match took.answer {
+        let turn = took.turn;
+        grown = took.blocks;
+        standing = took.standing;
+        match turn {
             Turn::Goes => {
-                size_now = took.blocks;
-                stand = took.standing;
                 taken = taken + 1;
                 at = at + 2 + fields.len();
             }
-            Turn::Stops(refusal) => {
+            Turn::Over(end) => {
                 return Ran {
-                    blocks: size_now,
-                    standing: stand,
+                    blocks: grown,
+                    standing,
                     count: taken,
                     at,
-                    end: End::Refused(refusal),
+                    end,
                 };
             }
         }
