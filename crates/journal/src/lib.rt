@@ -1,12 +1,10 @@
 // A journal's state by value, and a run over some bytes of it. The columns are lent to the loops of the crates below, once for all records
 // of the bytes.
 ghost use mathlib.Core.Path.{_≡_};
-ghost use Prim.Native.Nat.{ℕ, _+_, _≤_, _<_};
-ghost use lib.Dec.{T};
-ghost use lib.ListN.{length, drop};
+ghost use Prim.Native.Nat.{_+_, _≤_};
+ghost use lib.ListN.{length, take};
 ghost use Rattle.weights.specs.Weights.{most};
-ghost use Rattle.voter_set.specs.Good.{Good};
-ghost use Rattle.block_shape.specs.Shape.{Shaped};
+ghost use Rattle.voter_set.specs.Voters.{new};
 ghost use Rattle.held_laws.specs.Kept.{Kept};
 ghost use Rattle.marks.specs.declared.Mark.the-variants.{Rt, Op};
 ghost use Rattle.marks.specs.declared.Record.the-variants.{Whole};
@@ -28,6 +26,7 @@ use round::Round;
 use tracker::Votes;
 use vote_graph::VoteGraph;
 use voter_set::Answer;
+use voter_set::NewVoterSet;
 use voter_set::VoterSet;
 
 // Which records may come.
@@ -281,16 +280,23 @@ fn from_blocks(voters: VoterSet, table: BlockTable, bytes: &[u8]) -> Progress
     }
 }
 
+// The voter set of the pairs so far.
+fn make(ids: [u32; 256], weights: [u64; 256], count: usize) -> NewVoterSet
+    requires { ⌜ count ≤ 256 ⌝ }
+    ensures { λ r. ⌜ r ≡ new (take count ids) (take count weights) ⌝ }
+{
+    VoterSet::new(&ids[..count], &weights[..count])
+}
+
 // The Rt, and what follows it.
 fn root(pairs: Pairs, part: &[u8]) -> Progress
-    requires { ⌜ Stands Kept (pairing pairs) × (read (now part) ≡ Whole Rt) ⌝ }
+    requires { ⌜ (pairs .count ≤ 256) × (read (now part) ≡ Whole Rt) ⌝ }
     ensures { λ r. ⌜ (run-of r (now (part .entry)) ≡ run-from (pairing pairs) (now (part .entry))) × Within r (now (part .entry)) ⌝ }
 {
     let fields = marks::fields(part, Mark::Rt);
-    let count = pairs.count;
     let ids = pairs.ids;
     let weights = pairs.weights;
-    let made = VoterSet::new(&ids[..count], &weights[..count]);
+    let made = make(ids, weights, pairs.count);
     let answer = made.answer;
     let voters = made.voters;
     match answer {
@@ -309,7 +315,7 @@ fn root(pairs: Pairs, part: &[u8]) -> Progress
 
 // The first turn, and those after it.
 pub fn from_voters(pairs: Pairs, bytes: &[u8]) -> Progress
-    requires { ⌜ Stands Kept (pairing pairs) ⌝ }
+    requires { ⌜ pairs .count ≤ 256 ⌝ }
     ensures { λ r. ⌜ (run-of r (now (bytes .entry)) ≡ run-from (pairing pairs) (now (bytes .entry))) × Within r (now (bytes .entry)) ⌝ }
 {
     let mut ids = pairs.ids;
