@@ -2,8 +2,10 @@
 use mathlib.Core.List.{List}
 use mathlib.Core.Logic.{_⊎_, inl, inr}
 use mathlib.Core.Path.{_≡_, refl, sym, ap, subst, _∙_}
-use Prim.Native.Nat.{ℕ, zero, suc, _+_, _-_, _≤_}
+use Prim.Native.Nat.{ℕ, zero, suc, _+_, _-_, _^_, _≤_, _<_}
 use native.Mathlib.Omega.{arith}
+use mir.Syntax.{w64}
+use mir.Val.{Fits}
 use denote.Enum.Declared.{tagOf}
 use lib.ListN.{length, take, drop}
 use Rattle.marks.specs.declared.Mark.{Mark}
@@ -33,10 +35,17 @@ over Goes = Cut
 over (Over e) = e
 
 -- a record that was read whole ends within the bytes
-pub next-fits : (at : ℕ) (bs : List ℕ) (m : Mark) (fs : List ℕ) → at ≤ length bs → read (part at bs) ≡ is.Whole m → fs ≡ fields m (part at bs)
+next-fits : (at : ℕ) (bs : List ℕ) (m : Mark) (fs : List ℕ) → at ≤ length bs → read (part at bs) ≡ is.Whole m → fs ≡ fields m (part at bs)
     → at + 2 + length fs ≤ length bs
 next-fits at bs m fs h e f =
     omega (arith, whole-fits at bs m h (ap read (sym (part-drop at bs)) ∙ e), ap length f ∙ whole-fields (part at bs) m e)
+
+-- the numbers of the next turn fit, and less is left to read
+pub record Fitting (bs fs : List ℕ) (n at : ℕ) : Type 0 where
+  pub count : Fits w64 (n + 1)
+  pub mark : Fits w64 (at + 2)
+  pub place : Fits w64 (at + 2 + length fs)
+  pub less : length bs - (at + 2 + length fs) < length bs - at
 
 module _ {S : Type 0} (step : S → Mark → List ℕ → Next S) where
   -- before a record: the place lies within the bytes, each record taken had a byte, and the whole run is what is left to run
@@ -47,6 +56,18 @@ module _ {S : Type 0} (step : S → Mark → List ℕ → Next S) where
 
   pub going-start : (s : S) (bs : List ℕ) → Going s bs s 0 0
   going-start s bs = record { within = omega arith; fewer = omega arith; left = run-start step s bs }
+
+  pub going-fits : (first s : S) (n at : ℕ) (bs : List ℕ) (m : Mark) (fs : List ℕ) → Going first bs s n at → read (part at bs) ≡ is.Whole m
+      → fs ≡ fields m (part at bs) → length bs < 2 ^ 64 → Fitting bs fs n at
+  going-fits first s n at bs m fs g e f room =
+      let few = g .fewer in
+      let fit = next-fits at bs m fs (g .within) e f in
+      record {
+        count = record { fits = omega arith };
+        mark = record { fits = omega arith };
+        place = record { fits = omega arith };
+        less = omega arith;
+      }
 
   -- what a record that was tried says of the step
   next-goes : (s t : S) (x : Next S) → record { state = t; turn = Goes } ≡ taken-or-not s x → x ≡ goes t

@@ -1,7 +1,7 @@
 -- A record in the third turn, as the code tries it: a vote, a block, a record out of turn. Each keeps the shape.
 use mathlib.Core.List.{List}
 use mathlib.Core.Path.{_≡_, refl, sym, ap, subst, _∙_}
-use Prim.Native.Nat.{ℕ, _≤_}
+use Prim.Native.Nat.{ℕ, _+_, _≤_}
 use native.Mathlib.Omega.{arith}
 use lib.ListN.{length}
 use Rattle.blocks.specs.declared.BlockTable.{BlockTable}
@@ -27,7 +27,29 @@ use Rattle.runs.specs.Tried.{Tried, taken-or-not, tried}
 use Rattle.runs.proofs.Loops.{Going}
 use Rattle.growing.specs.Growing.{grown, added}
 use Rattle.growing.proofs.Adds.{left-by, added-tried}
-use Rattle.voting.specs.Voting.{Voting, pair-in, answered, turn-of, mark-of, counted, with-blocks, voted}
+use Rattle.voting.specs.declared.Kind.the-variants as kind
+use Rattle.voting.specs.Voting.{Voting, pair-in, answered, turn-of, kind-of, counted, with-blocks, voted}
+
+-- marks by what they are in this turn, and the bytes of their fields
+pub is-block : (m : Mark) → kind.Block ≡ kind-of m → m ≡ Bk
+is-block Bk e = refl
+is-block Pv e = absurd (let z : _≡_ {A = ℕ} 0 1 = cc in omega arith)
+is-block Pc e = absurd (let z : _≡_ {A = ℕ} 0 1 = cc in omega arith)
+is-block Vt e = absurd (let z : _≡_ {A = ℕ} 0 1 = cc in omega arith)
+is-block Rt e = absurd (let z : _≡_ {A = ℕ} 0 1 = cc in omega arith)
+is-block Op e = absurd (let z : _≡_ {A = ℕ} 0 1 = cc in omega arith)
+
+pub vote-size : (m : Mark) (phase : Phase) → kind.Vote phase ≡ kind-of m → size m ≡ 20
+vote-size Pv phase e = refl
+vote-size Pc phase e = refl
+vote-size Bk phase e = absurd (let z : _≡_ {A = ℕ} 0 1 = cc in omega arith)
+vote-size Vt phase e = absurd (let z : _≡_ {A = ℕ} 0 1 = cc in omega arith)
+vote-size Rt phase e = absurd (let z : _≡_ {A = ℕ} 0 1 = cc in omega arith)
+vote-size Op phase e = absurd (let z : _≡_ {A = ℕ} 0 1 = cc in omega arith)
+
+-- the voter is the first of four words or more
+pub vote-room : (m : Mark) (phase : Phase) (fs : List ℕ) → length fs ≡ size m → kind.Vote phase ≡ kind-of m → 0 + 4 ≤ length fs
+vote-room m phase fs l e = omega (arith, l ∙ vote-size m phase e)
 
 abbrev both : Frame → Held → Voting
 both f h = record { frame = f; held = h }
@@ -57,10 +79,15 @@ module _ (f : Frame) (h : Held) where
   counted-tried phase fs =
       let t = cast phase (word fs 0) (pair-in fs) in answered-tried (t .held) (t .answer) (unmoved phase (word fs 0) (pair-in fs))
 
-  by-phase : (phase : Phase) (fs : List ℕ) → taken-or-not (both f h) (counted phase (both f h) fs) ≡ tried voted (both f h) (mark-of phase) fs
+  by-kind : (m : Mark) (phase : Phase) (fs : List ℕ) → kind.Vote phase ≡ kind-of m
+      → taken-or-not (both f h) (counted phase (both f h) fs) ≡ tried voted (both f h) m fs
   unfolding tried voted
-  by-phase Prevote fs = refl
-  by-phase Precommit fs = refl
+  by-kind Pv phase fs e = ap (λ p. taken-or-not (both f h) (counted p (both f h) fs)) (let s : phase ≡ Prevote = cc in s)
+  by-kind Pc phase fs e = ap (λ p. taken-or-not (both f h) (counted p (both f h) fs)) (let s : phase ≡ Precommit = cc in s)
+  by-kind Bk phase fs e = absurd (let z : _≡_ {A = ℕ} 0 1 = cc in omega arith)
+  by-kind Vt phase fs e = absurd (let z : _≡_ {A = ℕ} 0 1 = cc in omega arith)
+  by-kind Rt phase fs e = absurd (let z : _≡_ {A = ℕ} 0 1 = cc in omega arith)
+  by-kind Op phase fs e = absurd (let z : _≡_ {A = ℕ} 0 1 = cc in omega arith)
 
   -- what a block leaves
   abbrev among : Tried BlockTable → Tried Voting
@@ -80,44 +107,33 @@ module _ (f : Frame) (h : Held) where
     pub vote-ready : Ready f h
     vote-ready = kept-ready f h k
 
-    pub vote-done : (phase : Phase) (fs : List ℕ) (signer : ℕ) (p : Pair) → signer ≡ word fs 0 → p ≡ pair-in fs
+    pub vote-done : (m : Mark) (phase : Phase) (fs : List ℕ) (signer : ℕ) (p : Pair) → kind.Vote phase ≡ kind-of m → signer ≡ word fs 0 → p ≡ pair-in fs
         → (a : ImportResult) (i : Held) → record { answer = a; held = i } ≡ import f phase signer p h → (x : Turn) → x ≡ turn-of a
-        → record { state = both f i; turn = x } ≡ tried voted (both f h) (mark-of phase) fs
-    vote-done phase fs signer p s q a i e x v =
+        → record { state = both f i; turn = x } ≡ tried voted (both f h) m fs
+    vote-done m phase fs signer p b s q a i e x v =
         ap (λ y. record { state = both f i; turn = y }) v
         ∙ ap (λ (t : Taken). record { state = both f (t .held); turn = turn-of (t .answer) })
         (e ∙ ap (λ n. import f phase n p h) s ∙ ap (λ y. import f phase (word fs 0) y h) q)
         ∙ counted-tried phase fs
-        ∙ by-phase phase fs
+        ∙ by-kind m phase fs b
 
     pub block-room : f .table .count ≤ 256
     block-room = k .table .few
 
-    pub block-done : (m : Mark) (fs : List ℕ) → m ≡ Bk → (t : BlockTable) (x : Turn)
+    pub block-done : (m : Mark) (fs : List ℕ) → kind.Block ≡ kind-of m → (t : BlockTable) (x : Turn)
         → record { state = t; turn = x } ≡ tried grown (f .table) Bk fs
         → record { state = both (with-table f t) h; turn = x } ≡ tried voted (both f h) m fs
-    block-done m fs b t x e = ap among e ∙ bk-tried fs ∙ ap (λ y. tried voted (both f h) y fs) (sym b)
+    block-done m fs b t x e = ap among e ∙ bk-tried fs ∙ ap (λ y. tried voted (both f h) y fs) (sym (is-block m b))
 
-    pub phase-done : (m : Mark) (fs : List ℕ) (phase : Phase) → m ≡ mark-of phase → (r : Tried Voting)
-        → r ≡ tried voted (both f h) (mark-of phase) fs → r ≡ tried voted (both f h) m fs
-    phase-done m fs phase b r e = e ∙ ap (λ y. tried voted (both f h) y fs) (sym b)
-
-    out-tried : (m : Mark) (fs : List ℕ) → voted (both f h) m fs ≡ stops 18
+    pub other-done : (m : Mark) (fs : List ℕ) → kind.Other ≡ kind-of m
         → record { state = both f h; turn = Over (end.Refused 18) } ≡ tried voted (both f h) m fs
-    unfolding tried
-    out-tried m fs e = ap (taken-or-not (both f h)) (sym e)
-
-    pub vt-done : (m : Mark) (fs : List ℕ) → m ≡ Vt → record { state = both f h; turn = Over (end.Refused 18) } ≡ tried voted (both f h) m fs
-    unfolding voted
-    vt-done m fs e = out-tried m fs (rw e)
-
-    pub rt-done : (m : Mark) (fs : List ℕ) → m ≡ Rt → record { state = both f h; turn = Over (end.Refused 18) } ≡ tried voted (both f h) m fs
-    unfolding voted
-    rt-done m fs e = out-tried m fs (rw e)
-
-    pub op-done : (m : Mark) (fs : List ℕ) → m ≡ Op → record { state = both f h; turn = Over (end.Refused 18) } ≡ tried voted (both f h) m fs
-    unfolding voted
-    op-done m fs e = out-tried m fs (rw e)
+    unfolding tried voted
+    other-done Vt fs e = refl
+    other-done Rt fs e = refl
+    other-done Op fs e = refl
+    other-done Bk fs e = absurd (let z : _≡_ {A = ℕ} 0 1 = cc in omega arith)
+    other-done Pv fs e = absurd (let z : _≡_ {A = ℕ} 0 1 = cc in omega arith)
+    other-done Pc fs e = absurd (let z : _≡_ {A = ℕ} 0 1 = cc in omega arith)
 
     counted-keeps : (phase : Phase) (fs : List ℕ) → let s = taken-or-not (both f h) (counted phase (both f h) fs) .state in Kept (s .frame) (s .held)
     counted-keeps phase fs =

@@ -17,6 +17,8 @@ use Rattle.marks.specs.Marks.{word, long}
 use Rattle.runs.specs.Run.{Next, goes, stops, leaves}
 use Rattle.runs.specs.Tried.{taken-or-not}
 use Rattle.growing.specs.Growing.{grown}
+use Rattle.voting.specs.declared.Kind.{Kind}
+use Rattle.voting.specs.declared.Kind.the-variants as kind
 
 -- a round while its votes come in
 pub record Voting : Type 0 where
@@ -56,9 +58,14 @@ voted v Vt fs = stops 18
 voted v Rt fs = stops 18
 voted v Op fs = stops 18
 
-abbrev pub mark-of : Phase → Mark
-mark-of Prevote = Pv
-mark-of Precommit = Pc
+-- what a mark is in this turn
+abbrev pub kind-of : Mark → Kind
+kind-of Bk = kind.Block
+kind-of Pv = kind.Vote Prevote
+kind-of Pc = kind.Vote Precommit
+kind-of Vt = kind.Other
+kind-of Rt = kind.Other
+kind-of Op = kind.Other
 
 -- whether the loop goes on after an answer
 abbrev pub turn-of : ImportResult → Turn

@@ -7,7 +7,7 @@ ghost use Rattle.held_laws.specs.Kept.{Kept};
 ghost use Rattle.marks.specs.Marks as marks;
 ghost use Rattle.runs.specs.Run.{Run, ran};
 ghost use Rattle.runs.specs.Tried.{Tried, tried};
-ghost use Rattle.voting.specs.Voting.{Voting, pair-in, turn-of, mark-of, voted};
+ghost use Rattle.voting.specs.Voting.{Voting, pair-in, turn-of, kind-of, voted};
 use context::Phase;
 use importing::Standing;
 use judging::ImportResult;
@@ -16,6 +16,13 @@ use marks::Mark;
 use marks::Record;
 use marks::Turn;
 use tracker::Pair;
+
+// What a mark is in this turn.
+pub enum Kind {
+    Block,
+    Vote(Phase),
+    Other,
+}
 
 // What a record leaves beside the columns, and whether the turn goes on.
 struct Took {
@@ -59,75 +66,16 @@ fn turn(answer: ImportResult) -> Turn
     }
 }
 
-// A Pv or Pc record.
-fn vote<'a>(
-    voters: &'a [u32; 64],
-    weights: &'a [u64; 64],
-    size: usize,
-    total: u64,
-    threshold: u64,
-    number: u64,
-    ids: &'a [u32; 256],
-    heights: &'a [u32; 256],
-    parents: &'a [u8; 256],
-    blocks: usize,
-    base: u8,
-    used: &mut [bool; 256],
-    above: &mut [u8; 256],
-    rows: &mut [[u64; 2]; 256],
-    order: &mut [u8; 256],
-    heads: &mut [u8; 256],
-    times: &mut [u8; 128],
-    places: &mut [u8; 128],
-    signatures: &mut [u64; 128],
-    targets: &mut [u32; 128],
-    numbers: &mut [u32; 128],
-    seconds: &mut [u64; 128],
-    entries: &mut [u8; 256],
-    standing: Standing,
-    phase: Phase,
-    fields: &[u8],
-) -> Took
-    requires { ⌜ Kept (record { number = number; voters = record { ids = now voters; weights = now weights; count = size; threshold = threshold; total = total }; table = record { ids = now ids; numbers = now heights; parents = now parents; count = blocks }; base = base }) (record { graph = record { used = now used; above = now above; rows = now rows; order = now order; listed = standing .listed; heads = now heads; tips = standing .tips }; votes = record { times = now times; places = now places; signatures = now signatures; targets = now targets; numbers = now numbers; seconds = now seconds }; entries = now entries; count = standing .count; equivocations = standing .equivocations; heard = standing .heard; answers = standing .answers }) × (length (now fields) ≡ 20) ⌝ }
-    ensures { λ r. ⌜ _≡_ {A = Tried Voting} (record { state = record { frame = record { number = number; voters = record { ids = now (voters .entry); weights = now (weights .entry); count = size; threshold = threshold; total = total }; table = record { ids = now (ids .entry); numbers = now (heights .entry); parents = now (parents .entry); count = r .blocks }; base = base }; held = record { graph = record { used = now (used .exit); above = now (above .exit); rows = now (rows .exit); order = now (order .exit); listed = r .standing .listed; heads = now (heads .exit); tips = r .standing .tips }; votes = record { times = now (times .exit); places = now (places .exit); signatures = now (signatures .exit); targets = now (targets .exit); numbers = now (numbers .exit); seconds = now (seconds .exit) }; entries = now (entries .exit); count = r .standing .count; equivocations = r .standing .equivocations; heard = r .standing .heard; answers = r .standing .answers } }; turn = r .turn }) (tried voted (record { frame = record { number = number; voters = record { ids = now (voters .entry); weights = now (weights .entry); count = size; threshold = threshold; total = total }; table = record { ids = now (ids .entry); numbers = now (heights .entry); parents = now (parents .entry); count = blocks }; base = base }; held = record { graph = record { used = now (used .entry); above = now (above .entry); rows = now (rows .entry); order = now (order .entry); listed = standing .listed; heads = now (heads .entry); tips = standing .tips }; votes = record { times = now (times .entry); places = now (places .entry); signatures = now (signatures .entry); targets = now (targets .entry); numbers = now (numbers .entry); seconds = now (seconds .entry) }; entries = now (entries .entry); count = standing .count; equivocations = standing .equivocations; heard = standing .heard; answers = standing .answers } }) (mark-of phase) (now (fields .entry))) ⌝ }
+fn kind_of(mark: Mark) -> Kind
+    ensures { λ r. ⌜ r ≡ kind-of mark ⌝ }
 {
-    let signer = marks::word(fields, 0);
-    let cast = pair(fields);
-    let step = importing::import(
-        voters,
-        weights,
-        size,
-        total,
-        threshold,
-        number,
-        ids,
-        heights,
-        parents,
-        blocks,
-        base,
-        used,
-        above,
-        rows,
-        order,
-        heads,
-        times,
-        places,
-        signatures,
-        targets,
-        numbers,
-        seconds,
-        entries,
-        standing,
-        phase,
-        signer,
-        cast,
-    );
-    let answer = step.answer;
-    let standing = step.standing;
-    Took {
-        turn: turn(answer),
-        blocks,
-        standing,
+    match mark {
+        Mark::Bk => Kind::Block,
+        Mark::Pv => Kind::Vote(Phase::Prevote),
+        Mark::Pc => Kind::Vote(Phase::Precommit),
+        Mark::Vt => Kind::Other,
+        Mark::Rt => Kind::Other,
+        Mark::Op => Kind::Other,
     }
 }
 
@@ -163,8 +111,8 @@ fn take<'a>(
     requires { ⌜ Kept (record { number = number; voters = record { ids = now voters; weights = now weights; count = size; threshold = threshold; total = total }; table = record { ids = now ids; numbers = now heights; parents = now parents; count = blocks }; base = base }) (record { graph = record { used = now used; above = now above; rows = now rows; order = now order; listed = standing .listed; heads = now heads; tips = standing .tips }; votes = record { times = now times; places = now places; signatures = now signatures; targets = now targets; numbers = now numbers; seconds = now seconds }; entries = now entries; count = standing .count; equivocations = standing .equivocations; heard = standing .heard; answers = standing .answers }) × (length (now fields) ≡ marks.size mark) ⌝ }
     ensures { λ r. ⌜ _≡_ {A = Tried Voting} (record { state = record { frame = record { number = number; voters = record { ids = now (voters .entry); weights = now (weights .entry); count = size; threshold = threshold; total = total }; table = record { ids = now (ids .exit); numbers = now (heights .exit); parents = now (parents .exit); count = r .blocks }; base = base }; held = record { graph = record { used = now (used .exit); above = now (above .exit); rows = now (rows .exit); order = now (order .exit); listed = r .standing .listed; heads = now (heads .exit); tips = r .standing .tips }; votes = record { times = now (times .exit); places = now (places .exit); signatures = now (signatures .exit); targets = now (targets .exit); numbers = now (numbers .exit); seconds = now (seconds .exit) }; entries = now (entries .exit); count = r .standing .count; equivocations = r .standing .equivocations; heard = r .standing .heard; answers = r .standing .answers } }; turn = r .turn }) (tried voted (record { frame = record { number = number; voters = record { ids = now (voters .entry); weights = now (weights .entry); count = size; threshold = threshold; total = total }; table = record { ids = now (ids .entry); numbers = now (heights .entry); parents = now (parents .entry); count = blocks }; base = base }; held = record { graph = record { used = now (used .entry); above = now (above .entry); rows = now (rows .entry); order = now (order .entry); listed = standing .listed; heads = now (heads .entry); tips = standing .tips }; votes = record { times = now (times .entry); places = now (places .entry); signatures = now (signatures .entry); targets = now (targets .entry); numbers = now (numbers .entry); seconds = now (seconds .entry) }; entries = now (entries .entry); count = standing .count; equivocations = standing .equivocations; heard = standing .heard; answers = standing .answers } }) mark (now (fields .entry))) ⌝ }
 {
-    match mark {
-        Mark::Bk => {
+    match kind_of(mark) {
+        Kind::Block => {
             let took = growing::add(ids, heights, parents, blocks, fields);
             let turn = took.turn;
             Took {
@@ -173,73 +121,47 @@ fn take<'a>(
                 standing,
             }
         }
-        Mark::Pv => vote(
-            voters,
-            weights,
-            size,
-            total,
-            threshold,
-            number,
-            ids,
-            heights,
-            parents,
-            blocks,
-            base,
-            used,
-            above,
-            rows,
-            order,
-            heads,
-            times,
-            places,
-            signatures,
-            targets,
-            numbers,
-            seconds,
-            entries,
-            standing,
-            Phase::Prevote,
-            fields,
-        ),
-        Mark::Pc => vote(
-            voters,
-            weights,
-            size,
-            total,
-            threshold,
-            number,
-            ids,
-            heights,
-            parents,
-            blocks,
-            base,
-            used,
-            above,
-            rows,
-            order,
-            heads,
-            times,
-            places,
-            signatures,
-            targets,
-            numbers,
-            seconds,
-            entries,
-            standing,
-            Phase::Precommit,
-            fields,
-        ),
-        Mark::Vt => Took {
-            turn: Turn::Over(End::Refused(18)),
-            blocks,
-            standing,
-        },
-        Mark::Rt => Took {
-            turn: Turn::Over(End::Refused(18)),
-            blocks,
-            standing,
-        },
-        Mark::Op => Took {
+        Kind::Vote(phase) => {
+            let signer = marks::word(fields, 0);
+            let cast = pair(fields);
+            let step = importing::import(
+                voters,
+                weights,
+                size,
+                total,
+                threshold,
+                number,
+                ids,
+                heights,
+                parents,
+                blocks,
+                base,
+                used,
+                above,
+                rows,
+                order,
+                heads,
+                times,
+                places,
+                signatures,
+                targets,
+                numbers,
+                seconds,
+                entries,
+                standing,
+                phase,
+                signer,
+                cast,
+            );
+            let answer = step.answer;
+            let standing = step.standing;
+            Took {
+                turn: turn(answer),
+                blocks,
+                standing,
+            }
+        }
+        Kind::Other => Took {
             turn: Turn::Over(End::Refused(18)),
             blocks,
             standing,

@@ -1,11 +1,11 @@
 use mathlib.Core.Path.{sym, ap, _∙_}
-use native.Mathlib.Omega.{arith}
+use native.Mathlib.Nat.{le-refl}
 use Prim.Native.Nat.{_-_, _≤_}
 use lib.ListN.{length}
 use borrow.Author.Needs.{needs}
 use Rattle.marks.proofs.Readings.{whole-means}
 use Rattle.runs.proofs.Turns.{whole-fields}
-use Rattle.runs.proofs.Loops.{Going, going-start, tried-goes, going-on, going-over, going-ends, next-fits}
+use Rattle.runs.proofs.Loops.{Going, going-start, tried-goes, going-on, going-over, going-ends, going-fits}
 use Rattle.pairing.specs.Pairing.{paired}
 use Rattle.pairing.proofs.run.Statement.{statement}
 use Rattle.pairing.proofs.run.Tie as tie
@@ -30,15 +30,15 @@ loop-holds c = (going-start _ _ _, c .before .pre)
 
 -- src/lib.rt:89:20
 sub-part : tie.Need-sub-part Inv-loop μ-loop
-sub-part c = omega (arith, c .loop .inv .0 .within)
+sub-part c = c .loop .inv .0 .within
 
 -- src/lib.rt:89:20
 part-part-start : tie.Need-part-part-start Inv-loop μ-loop
-part-part-start c = omega (arith, c .loop .inv .0 .within)
+part-part-start c = c .loop .inv .0 .within
 
 -- src/lib.rt:89:20
 part-part-end : tie.Need-part-part-end Inv-loop μ-loop
-part-part-end c = omega (arith, c .loop .inv .0 .within)
+part-part-end c = le-refl _
 
 -- src/lib.rt:90:35
 read-requires : tie.Need-read-requires Inv-loop μ-loop
@@ -73,19 +73,19 @@ enum-told c = search needs
 
 -- src/lib.rt:104:25
 add-taken : tie.Need-add-taken Inv-loop μ-loop
-add-taken c = search needs
+add-taken c = going-fits paired _ _ _ _ _ _ _ (c .before .before .before .before .before .before .before .before .before .before .before .loop .inv .0) (sym (c .before .before .before .before .before .before .before .before .before .read .ensures) ∙ c .before .before .before .before .before .before .before .mark .given .1) (c .before .before .before .before .before .fields .ensures) (c .before .before .before .before .before .before .before .before .before .before .before .before .before .good .1 .1 .1 .0 .0) .count
 
 -- src/lib.rt:105:22
 add-at : tie.Need-add-at Inv-loop μ-loop
-add-at c = search needs
+add-at c = going-fits paired _ _ _ _ _ _ _ (c .before .before .before .before .before .before .before .before .before .before .before .loop .inv .0) (sym (c .before .before .before .before .before .before .before .before .before .read .ensures) ∙ c .before .before .before .before .before .before .before .mark .given .1) (c .before .before .before .before .before .fields .ensures) (c .before .before .before .before .before .before .before .before .before .before .before .before .before .good .1 .1 .1 .0 .0) .mark
 
 -- src/lib.rt:105:22
 add-at-2 : tie.Need-add-at-2 Inv-loop μ-loop
-add-at-2 c = omega (arith, c .before .before .before .before .before .before .before .before .before .before .before .loop .inv .0 .within, next-fits (c .before .before .before .before .before .before .before .before .before .before .before .loop .at) (c .before .before .before .before .before .before .before .before .before .before .before .before .before .args .bytes .now) (c .before .before .before .before .before .before .before .mark .given .0 .0) (c .before .before .before .before .before .fields .result .now) (c .before .before .before .before .before .before .before .before .before .before .before .loop .inv .0 .within) (sym (c .before .before .before .before .before .before .before .before .before .read .ensures) ∙ c .before .before .before .before .before .before .before .mark .given .1) (c .before .before .before .before .before .fields .ensures))
+add-at-2 c = going-fits paired _ _ _ _ _ _ _ (c .before .before .before .before .before .before .before .before .before .before .before .loop .inv .0) (sym (c .before .before .before .before .before .before .before .before .before .read .ensures) ∙ c .before .before .before .before .before .before .before .mark .given .1) (c .before .before .before .before .before .fields .ensures) (c .before .before .before .before .before .before .before .before .before .before .before .before .before .good .1 .1 .1 .0 .0) .place
 
 -- src/lib.rt:88:5
 loop-less : tie.Need-loop-less Inv-loop μ-loop
-loop-less c = omega (arith, c .before .before .before .before .before .before .before .before .before .before .before .loop .inv .0 .within, next-fits (c .before .before .before .before .before .before .before .before .before .before .before .loop .at) (c .before .before .before .before .before .before .before .before .before .before .before .before .before .args .bytes .now) (c .before .before .before .before .before .before .before .mark .given .0 .0) (c .before .before .before .before .before .fields .result .now) (c .before .before .before .before .before .before .before .before .before .before .before .loop .inv .0 .within) (sym (c .before .before .before .before .before .before .before .before .before .read .ensures) ∙ c .before .before .before .before .before .before .before .mark .given .1) (c .before .before .before .before .before .fields .ensures))
+loop-less c = going-fits paired _ _ _ _ _ _ _ (c .before .before .before .before .before .before .before .before .before .before .before .loop .inv .0) (sym (c .before .before .before .before .before .before .before .before .before .read .ensures) ∙ c .before .before .before .before .before .before .before .mark .given .1) (c .before .before .before .before .before .fields .ensures) (c .before .before .before .before .before .before .before .before .before .before .before .before .before .good .1 .1 .1 .0 .0) .less
 
 -- src/lib.rt:88:5
 loop-again : tie.Need-loop-again Inv-loop μ-loop
