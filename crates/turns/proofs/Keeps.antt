@@ -36,7 +36,8 @@ use Rattle.held_laws.proofs.Reaches.{reached-opened, reached-voted, reached-add
 use Rattle.marks.specs.declared.Mark.{Mark}
 use Rattle.marks.specs.declared.Mark.the-variants.{Vt, Rt, Bk, Op, Pv, Pc}
 use Rattle.marks.specs.Marks.{word, long}
-use Rattle.runs.specs.Run.{Next, goes, stops, leaves, on-next}
+use Rattle.runs.specs.Run.{Next, goes, stops, leaves, on-next, ran}
+use Rattle.runs.proofs.Simulations.{run-simulates}
 use Rattle.pairing.specs.declared.Pairs.{Pairs}
 use Rattle.pairing.specs.Pairing.{with-pair, paired}
 use Rattle.growing.specs.Growing.{added, answered, grown}
@@ -161,3 +162,9 @@ took-kept = took-stands Kept opened-kept import-keeps adding-keeps
 
 pub took-reached : (j : Journal) → Stands Reached j → (m : Mark) (fs : List ℕ) → Then (Stands Reached) (took j m fs)
 took-reached = took-stands Reached reached-opened reached-voted reached-added
+
+-- a property that every record keeps, from a state on
+pub ran-has : {S : Type 0} (step : S → Mark → List ℕ → Next S) (Q : S → Type 0) → ((s : S) → Q s → (m : Mark) (fs : List ℕ) → Then Q (step s m fs))
+    → (s : S) (bs : List ℕ) → Q s → Q (ran step s bs .state)
+ran-has {S} step Q keeps s bs q =
+    run-simulates step step (λ (s : S). s) Q (λ s t m fs p e. (e, subst (Then Q) e (keeps s p m fs))) (λ s m fs k p e. e) s bs q .1
