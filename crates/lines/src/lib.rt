@@ -1,5 +1,5 @@
-// The lines that a replay prints, written from the start of a lent array of 512 bytes; what stands after them stays. The longest text
-// has 432 bytes, since a number has at most 20 digits.
+// The lines that a replay prints, written from the start of a lent array of 512 bytes; what stands after them stays. A number has at
+// most 20 digits, so that no text has more than 432 bytes.
 ghost use mathlib.Core.List.{_++_};
 ghost use mathlib.Core.Path.{_≡_};
 ghost use Prim.Native.Nat.{_+_, _≤_};
