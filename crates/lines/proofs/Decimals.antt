@@ -54,8 +54,8 @@ unfolding decimal
 decimal-is k n h w = digits-are k 20 n h w
 
 -- a u64 has at most 20
-pub few : (n k : ℕ) → n < 2 ^ 64 → Fewest 10 1 n k → k ≤ 20
-few n k h w = go (decLt 20 k)
+pub few : (n k : ℕ) → Fewest 10 1 n k → n < 2 ^ 64 → k ≤ 20
+few n k w h = go (decLt 20 k)
   where
     go : Dec (20 < k) → k ≤ 20
     go (yes more) =
@@ -63,9 +63,9 @@ few n k h w = go (decLt 20 k)
         absurd (omega (arith, w .2 (omega arith)))
     go (no most) = omega arith
 
-pub put-decimal : (n k : ℕ) (ds : List ℕ) {old new : List ℕ} {at next : ℕ} → n < 2 ^ 64 → Fewest 10 1 n k → take k ds ≡ kit 10 k n
+pub put-decimal : (n k : ℕ) (ds : List ℕ) {old new : List ℕ} {at next : ℕ} → Fewest 10 1 n k → n < 2 ^ 64 → take k ds ≡ kit 10 k n
     → Put old at (take k ds) new next → Put old at (decimal n) new next × next ≤ at + 20
-put-decimal n k ds {old} {new} {at} {next} h w e p =
-    let s : take k ds ≡ decimal n = e ∙ decimal-is k n (few n k h w) w in
+put-decimal n k ds {old} {new} {at} {next} w h e p =
+    let s : take k ds ≡ decimal n = e ∙ decimal-is k n (few n k w h) w in
     let q : Put old at (decimal n) new next = rw s at p in
     (q, omega (arith, q .next-is, decimal-length n))

@@ -25,11 +25,11 @@ slice-aggregate-put c = search needs
 
 -- src/lib.rt:32:5
 put-requires : tie.Need-put-requires
-put-requires c κs = omega (arith, few (c .before .before .before .before .args .n) _ (omega arith) (c .before .before .decimal .ensures .1 .0), c .before .before .decimal .ensures .0 .1)
+put-requires c κs = omega (arith, few _ _ (c .before .before .decimal .ensures .1 .0) (omega arith), c .before .before .decimal .ensures .0 .1)
 
 -- src/lib.rt:26:1
 returns : tie.Need-returns
-returns c = put-decimal (c .before .before .before .before .before .args .n) _ _ (omega arith) (c .before .before .before .decimal .ensures .1 .0) (c .before .before .before .decimal .ensures .1 .1) (c .put .ensures)
+returns c = put-decimal _ _ _ (c .before .before .before .decimal .ensures .1 .0) (omega arith) (c .before .before .before .decimal .ensures .1 .1) (c .put .ensures)
 
 pub put-number-spec : {M : Type 1} → statement M
 put-number-spec =
