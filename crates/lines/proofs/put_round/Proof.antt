@@ -1,5 +1,4 @@
-use Rattle.lines.specs.Lines.{round-lines}
-use Rattle.lines.proofs.Puts.{_then_, put-whole}
+use Rattle.lines.proofs.Rounds.{put-lines}
 use borrow.Author.Needs.{needs}
 use Rattle.lines.proofs.put_round.Statement.{statement}
 use Rattle.lines.proofs.put_round.Tie as tie
@@ -56,8 +55,7 @@ put-line-requires-2 c κs = search needs
 
 -- src/lib.rt:150:1
 returns : tie.Need-returns
-unfolding round-lines
-returns c = rw (← c .before .before .before .before .before .before .before .before .before .before .before .before .before .before .before .before .before .before .heard-in .ensures, ← c .before .before .before .before .before .before .before .before .before .before .before .before .before .before .before .before .before .heard-in2 .ensures) (put-whole (c .before .before .before .before .before .before .before .before .before .before .before .before .before .before .put-line .ensures .0 then c .before .before .before .before .before .before .before .before .before .before .before .put-heard .ensures .0 then c .before .before .before .before .before .before .before .before .put-heard2 .ensures .0 then c .before .before .before .put-answers .ensures .0 then c .put-line2 .ensures .0))
+returns c = put-lines (c .before .before .before .before .before .before .before .before .before .before .before .before .before .before .before .before .before .before .before .before .before .before .before .before .before .args .round) _ _ _ (c .before .before .before .before .before .before .before .before .before .before .before .before .before .before .before .before .before .before .heard-in .ensures) (c .before .before .before .before .before .before .before .before .before .before .before .before .before .before .before .before .before .heard-in2 .ensures) (c .before .before .before .before .before .before .before .before .before .before .before .before .before .before .put-line .ensures .0) (c .before .before .before .before .before .before .before .before .before .before .before .put-heard .ensures .0) (c .before .before .before .before .before .before .before .before .put-heard2 .ensures .0) (c .before .before .before .put-answers .ensures .0) (c .put-line2 .ensures .0)
 
 pub put-round-spec : {M : Type 1} → statement M
 put-round-spec =
