@@ -1,8 +1,8 @@
--- The kit's decimal digits are those of the definition.
+-- The decimal digits of the definition tell the number, and are those of the kit.
 use mathlib.Core.Bool.{Bool, true, false, cond}
 use mathlib.Core.List.{List, [], _∷_, _++_}
 use mathlib.Core.Path.{_≡_, refl, sym, ap, _∙_}
-use Prim.Native.Nat.{ℕ, zero, suc, _+_, _-_, _/_, _%_, _^_, _≤_, _<_}
+use Prim.Native.Nat.{ℕ, zero, suc, _+_, _-_, _*_, _/_, _%_, _^_, _≤_, _<_}
 use native.Mathlib.Omega.{arith}
 use lib.Dec.{ltb}
 use native.Mathlib.Nat.{one-le-pow, pow-le-pow-right}
@@ -11,7 +11,7 @@ use lib.ListN.{length, take, length-append}
 use borrow.Author.Tests.{lt-ltb, le-ltb}
 use Rattle.io.specs.Digits.{Fewest}
 use Rattle.io.specs.Digits.{digits as kit}
-use Rattle.lines.specs.Lines.{digits, decimal}
+use Rattle.lines.specs.Lines.{digits, decimal, told-after}
 use Rattle.lines.specs.Put.{Put}
 
 pub digits-length : (k n : ℕ) → length (digits k n) ≤ k
@@ -27,6 +27,26 @@ digits-length (suc k) n = go (ltb n 10) (digits-length k (n / 10))
 pub decimal-length : (n : ℕ) → length (decimal n) ≤ 20
 unfolding decimal
 decimal-length n = digits-length 20 n
+
+told-append : (n : ℕ) (xs ys : List ℕ) → told-after n (xs ++ ys) ≡ told-after (told-after n xs) ys
+unfolding told-after
+told-append n [] ys = refl
+told-append n (x ∷ xs) ys = told-append (10 * n + (x - 48)) xs ys
+
+-- as many digits as a number needs give it back
+pub digits-back : (k n : ℕ) → n < 10 ^ k → told-after 0 (digits k n) ≡ n
+unfolding digits told-after
+digits-back zero n h = omega arith
+digits-back (suc k) n h = go (ltb n 10) (digits-back k (n / 10) (omega arith))
+  where
+    go : (b : Bool) → told-after 0 (digits k (n / 10)) ≡ n / 10
+        → told-after 0 (cond b ((48 + n) ∷ []) (digits k (n / 10) ++ ((48 + n % 10) ∷ []))) ≡ n
+    go true e = omega arith
+    go false e = told-append 0 (digits k (n / 10)) ((48 + n % 10) ∷ []) ∙ rw e (omega arith)
+
+pub decimal-back : (n : ℕ) → n < 2 ^ 64 → told-after 0 (decimal n) ≡ n
+unfolding decimal
+decimal-back n h = digits-back 20 n (omega arith)
 
 -- as many digits as n has, and no more
 pub digits-are : (k f n : ℕ) → k ≤ f → Fewest 10 1 n k → kit 10 k n ≡ digits f n

@@ -3,7 +3,7 @@
 -- number, or `none`; `yes` or `no`; bytes after the last whole record.
 use mathlib.Core.Bool.{Bool, cond}
 use mathlib.Core.List.{List, [], _∷_, _++_}
-use Prim.Native.Nat.{ℕ, zero, suc, _+_, _/_, _%_}
+use Prim.Native.Nat.{ℕ, zero, suc, _+_, _-_, _*_, _/_, _%_}
 use Prim.Native.Char.{code}
 use Prim.Native.String.{String, [] as none, _∷_ as before}
 use lib.Dec.{ltb}
@@ -28,6 +28,11 @@ digits (suc k) n = cond (ltb n 10) ((48 + n) ∷ []) (digits k (n / 10) ++ ((48 
 -- 20 digits hold any u64
 unfoldable pub decimal : ℕ → List ℕ
 decimal n = digits 20 n
+
+-- the number that digits tell after those that tell n
+unfoldable pub told-after : ℕ → List ℕ → ℕ
+told-after n [] = n
+told-after n (d ∷ ds) = told-after (10 * n + (d - 48)) ds
 
 unfoldable pub named : List ℕ → ℕ → List ℕ
 named word n = word ++ decimal n
