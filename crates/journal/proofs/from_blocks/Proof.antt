@@ -59,21 +59,21 @@ returns : tie.Need-returns
 returns c = (
   grown-done _ _ (c .before .before .before .before .before .before .before .before .before .before .before .before .before .pre) _ _ (c .before .before .before .before .before .run .result .at) _ _ (c .before .before .before .before .before .run .ensures .0) (c .before .before .before .enum-told .given .1) _ _ (c .before .«open» .ensures .0) (c .later .ensures),
   later-within _ _ (c .before .before .before .before .before .before .before .before .before .before .before .before .before .args .bytes .now) (c .before .before .before .before .before .run .ensures .1 .1) (c .before .before .before .before .before .run .ensures .1 .2) (c .before .«open» .result) (c .before .«open» .ensures .1 .0) (c .before .«open» .ensures .1 .1) _ (c .later .ensures),
-  )
+)
 
 -- src/lib.rt:251:1
 returns-2 : tie.Need-returns-2
 returns-2 c = (
   grown-cut _ _ (c .before .before .before .before .before .before .before .before .before .before .before .pre) _ _ (c .before .before .before .run .result .at) _ _ (c .before .before .before .run .ensures .0) (c .before .enum-told2 .given .1) _ (c .with-blocks .ensures),
   (c .before .before .before .run .ensures .1 .2, c .before .before .before .run .ensures .1 .1),
-  )
+)
 
 -- src/lib.rt:251:1
 returns-3 : tie.Need-returns-3
 returns-3 c = (
   grown-refused _ _ (c .before .before .before .before .before .before .before .before .before .before .before .before .pre) _ _ (c .before .before .before .before .run .result .at) _ _ (c .before .before .before .before .run .ensures .0) _ (c .before .before .end .given .1) _ (c .with-blocks2 .ensures),
   (c .before .before .before .before .run .ensures .1 .2, c .before .before .before .before .run .ensures .1 .1),
-  )
+)
 
 pub from-blocks-spec : {M : Type 1} → statement M
 from-blocks-spec =

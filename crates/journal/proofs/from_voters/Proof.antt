@@ -59,21 +59,21 @@ returns : tie.Need-returns
 returns c = (
   paired-done _ (c .before .before .before .before .before .before .before .before .before .before .before .pre) _ _ (c .before .before .before .before .before .run .result .at) _ _ (c .before .before .before .before .before .run .ensures .0) (c .before .before .before .enum-told .given .1) _ _ (c .before .root .ensures .0) (c .later .ensures),
   later-within _ _ (c .before .before .before .before .before .before .before .before .before .before .before .args .bytes .now) (c .before .before .before .before .before .run .ensures .1 .1) (c .before .before .before .before .before .run .ensures .1 .2) (c .before .root .result) (c .before .root .ensures .1 .0) (c .before .root .ensures .1 .1) _ (c .later .ensures),
-  )
+)
 
 -- src/lib.rt:311:1
 returns-2 : tie.Need-returns-2
 returns-2 c = (
   paired-cut _ (c .before .before .before .before .before .before .before .before .before .pre) _ _ (c .before .before .before .run .result .at) _ _ (c .before .before .before .run .ensures .0) (c .before .enum-told2 .given .1) _ (c .with-pairs .ensures),
   (c .before .before .before .run .ensures .1 .2, c .before .before .before .run .ensures .1 .1),
-  )
+)
 
 -- src/lib.rt:311:1
 returns-3 : tie.Need-returns-3
 returns-3 c = (
   paired-refused _ (c .before .before .before .before .before .before .before .before .before .before .pre) _ _ (c .before .before .before .before .run .result .at) _ _ (c .before .before .before .before .run .ensures .0) _ (c .before .before .end .given .1) _ (c .with-pairs2 .ensures),
   (c .before .before .before .before .run .ensures .1 .2, c .before .before .before .before .run .ensures .1 .1),
-  )
+)
 
 pub from-voters-spec : {M : Type 1} → statement M
 from-voters-spec =

@@ -51,7 +51,7 @@ returns : tie.Need-returns
 returns c = (
   op-refused _ _ (c .before .before .before .before .before .before .before .before .before .before .pre .0) _ (c .before .before .before .before .before .before .before .before .before .before .pre .1) _ (c .before .before .before .before .before .before .before .before .fields .ensures) _ (c .before .before .before .before .before .before .word .ensures .0) (sym (c .before .before .before .find .ensures) ∙ c .before .enum-told .given .1) _ (c .with-blocks .ensures),
   (omega arith, omega arith),
-  )
+)
 
 -- src/lib.rt:246:9
 opened-requires : tie.Need-opened-requires
@@ -82,7 +82,7 @@ returns-2 : tie.Need-returns-2
 returns-2 c = (
   op-done _ _ (c .before .before .before .before .before .before .before .before .before .before .before .before .before .before .pre .0) _ (c .before .before .before .before .before .before .before .before .before .before .before .before .before .before .pre .1) _ (c .before .before .before .before .before .before .before .before .before .before .before .before .fields .ensures) _ (c .before .before .before .before .before .before .before .before .before .before .word .ensures .0) _ (c .before .before .before .before .before .before .before .before .before .before .before .long .ensures) _ (sym (c .before .before .before .before .before .before .before .find .ensures) ∙ c .before .before .before .before .before .place .given .1) _ (c .before .before .before .opened .ensures) _ _ (c .before .from-votes .ensures .0) (c .later .ensures),
   later-within 1 14 (c .before .before .before .before .before .before .before .before .before .before .before .before .before .before .args .part .now) (omega arith) (whole-means _ _ (c .before .before .before .before .before .before .before .before .before .before .before .before .before .before .pre .1) .1) (c .before .from-votes .result) (c .before .from-votes .ensures .1 .0) (c .before .from-votes .ensures .1 .1) _ (c .later .ensures),
-  )
+)
 
 pub open-spec : {M : Type 1} → statement M
 open-spec =

@@ -74,14 +74,14 @@ returns : tie.Need-returns
 returns c = (
   rt-refused (c .before .before .before .before .before .before .before .before .before .before .args .pairs) _ (c .before .before .before .before .before .before .before .before .before .before .pre .1) _ (c .before .before .before .before .before .before .before .before .fields .ensures) _ (c .before .before .before .before .before .make .ensures) _ (c .before .before .answer .given .1) _ (c .with-pairs .ensures),
   (omega arith, omega arith),
-  )
+)
 
 -- src/lib.rt:292:1
 returns-2 : tie.Need-returns-2
 returns-2 c = (
   rt-done (c .before .before .before .before .before .before .before .before .before .before .before .before .before .before .args .pairs) _ (c .before .before .before .before .before .before .before .before .before .before .before .before .before .before .pre .1) _ (c .before .before .before .before .before .before .before .before .before .before .before .before .fields .ensures) _ (c .before .before .before .before .before .before .before .before .before .make .ensures) (c .before .before .before .before .before .before .enum-told .given .1) _ _ (c .before .before .before .before .before .word .ensures .0) (c .before .before .before .before .word2 .ensures .0) _ (c .before .before .before .new .ensures) _ _ (c .before .from-blocks .ensures .0) (c .later .ensures),
   later-within 1 10 (c .before .before .before .before .before .before .before .before .before .before .before .before .before .before .args .part .now) (omega arith) (whole-means _ _ (c .before .before .before .before .before .before .before .before .before .before .before .before .before .before .pre .1) .1) (c .before .from-blocks .result) (c .before .from-blocks .ensures .1 .0) (c .before .from-blocks .ensures .1 .1) _ (c .later .ensures),
-  )
+)
 
 pub root-spec : {M : Type 1} → statement M
 root-spec =
