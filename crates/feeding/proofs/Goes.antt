@@ -1,14 +1,15 @@
 -- A piece behind the bytes that were left: it is run with them, by way of the joint.
 use mathlib.Core.Bool.{Bool, true, false, not, _&&_}
-use mathlib.Core.List.{List, [], _++_}
+use mathlib.Core.List.{List, [], _++_, append-nil, append-assoc}
 use mathlib.Core.Path.{_≡_, refl, sym, ap, subst, _∙_}
 use Prim.Native.Nat.{ℕ, _+_, _-_, _≤_, _<_}
 use native.Mathlib.Omega.{arith}
 use borrow.Author.Tests.{ltb-false}
 use lib.Dec.{T, ltb}
-use lib.ListN.{length, take, drop, length-append, length-take, replicate}
-use lib.Seq.{take-at}
-use Rattle.loops.proofs.Tests.{left-of, right-of}
+use lib.ListN.{length, take, drop, length-append, length-drop, length-take, drop-of-length-le, replicate}
+use lib.Seq.{take-at, take-all, take-length, length-take-le, drop-at, drop-drop}
+use borrow.Rule.Slice.PartMut.{midOf, postOf, putMid}
+use Rattle.loops.proofs.Tests.{T-true, left-of, right-of}
 use Rattle.weights.specs.Weights.{most, plus}
 use Rattle.held_laws.specs.Kept.{Kept}
 use Rattle.marks.specs.declared.Record.{Record}
@@ -21,20 +22,23 @@ use Rattle.runs.proofs.Turns.{part-drop}
 use Rattle.runs.proofs.Rests.{rest-short}
 use Rattle.runs.proofs.Joints.{joint, joint-past, joint-goes-on, joint-refused, joint-left, joint-none}
 use Rattle.turns.specs.Turns as turns
-use Rattle.turns.specs.Turns.{took}
+use Rattle.turns.specs.Turns.{pairing, no-pairs, took}
 use Rattle.turns.specs.Stands.{Stands}
 use Rattle.turns.proofs.Keeps.{took-kept, ran-has}
 use Rattle.journal.specs.declared.Journal.{Journal}
 use Rattle.journal.specs.declared.Progress.{Progress}
 use Rattle.journal.specs.Journal.{laid, told, by-value, run-of, run-from}
-use Rattle.journal.proofs.Laid.{told-laid}
+use Rattle.journal.proofs.Laid.{told-laid, stands-told}
+use Rattle.journal.specs.Journal as journal
+use Rattle.pairing.specs.declared.Pairs.{Pairs}
 use Rattle.journal.proofs.Turning.{from-ended, from-counted}
 use Rattle.feeding.specs.declared.Rest.{Rest}
 use Rattle.feeding.specs.declared.Replay.{Replay}
 use Rattle.feeding.specs.declared.Joint.{Joint}
 use Rattle.feeding.specs.declared.Stop.the-variants as stop
 use Rattle.feeding.specs.declared.Stop.the-variants.{Open}
-use Rattle.feeding.specs.Feeding.{bytes-of, is-cut, rest-stands, kept-rest, ended-by, after-run, went, joint-of}
+use Rattle.feeding.specs.Feeding.{bytes-of, is-cut, rest-stands, kept-rest, ended-by, after-run, went}
+use Rattle.feeding.specs.Feeding as joint
 
 -- what the test of a rest says
 pub rest-means : (r : Rest) → T (rest-stands r) → (r .count ≤ 22) × (read (bytes-of r) ≡ is.Cut)
@@ -99,11 +103,9 @@ module _ (j : turns.Journal) (bs : List ℕ) (p : Progress) (e : run-of p bs ≡
       (subst (Stands Kept) (sym (told-laid (ran took j bs .state))) (ran-has took (Stands Kept) took-kept j bs s))
 
 -- the joint as code lays it
-pub joint-bytes : (rest : Rest) (piece : List ℕ) (both : Joint) → both ≡ joint-of rest piece → take (both .count) (both .bytes) ≡ joint (bytes-of rest) piece
-unfolding joint-of
-joint-bytes rest piece both e =
-    ap (λ (x : Joint). take (x .count) (x .bytes)) e
-    ∙ take-at (joint (bytes-of rest) piece) (drop (length (joint (bytes-of rest) piece)) (replicate 44 0)) (length (joint (bytes-of rest) piece)) refl
+pub joint-bytes : (bs : List ℕ) (both : Joint) → both ≡ joint.laid bs → take (both .count) (both .bytes) ≡ bs
+unfolding joint.laid
+joint-bytes bs both e = ap (λ (x : Joint). take (x .count) (x .bytes)) e ∙ take-at bs (drop (length bs) (replicate 44 0)) (length bs) refl
 
 -- nothing was left
 pub went-none : (j : Journal) (rest : Rest) (n : ℕ) (piece : List ℕ) → rest .count ≡ 0 → (r : Run Journal) → r ≡ run-from (told j) piece
@@ -176,3 +178,123 @@ module _ (j : Journal) (rest : Rest) (stands : T (rest-stands rest)) (n : ℕ) (
         ∙ ap (λ (s : turns.Journal). run-from s (drop (p .at - length left) piece)) (ap told (told-state (told j) (joint left piece) p run-joint) ∙ told-laid state))
         ∙ sym (after-counted n (p .count) (run-from state (drop (p .at - length left) piece)))
         ∙ sym (ap (after-run n) (from-counted (told j) state (p .count) (left ++ piece) (drop (p .at - length left) piece) (goes .1)))
+
+-- the joint lies within its array
+pub joint-inside : (bs : List ℕ) (both : Joint) → both ≡ joint.laid bs → both .count ≤ length (both .bytes)
+unfolding joint.laid
+joint-inside bs both e =
+    omega (
+      arith,
+      ap (λ (x : Joint). x .count) e,
+      ap (λ (x : Joint). length (x .bytes)) e,
+      length-append bs (drop (length bs) (replicate 44 0)),
+    )
+
+-- the rest of the piece, as code makes it
+abbrev part : ℕ → List ℕ → List ℕ
+part a piece = take (length piece - a) (drop a piece)
+
+module _ (j : Journal) (rest : Rest) (sized : length (rest .bytes) ≡ 22) (stands : T (rest-stands rest)) (n : ℕ) (piece bs : List ℕ)
+    (is-joint : bs ≡ joint (bytes-of rest) piece) (p : Progress) (e : run-of p bs ≡ run-from (told j) bs) (fits : p .at ≤ length bs) (q : p .end ≡ Cut)
+    (some : 0 < p .count) where
+  counts : length (bytes-of rest) ≡ rest .count
+  counts = length-take-le (rest .count) (rest .bytes) (omega (arith, rest-means rest stands .0))
+
+  pub across-fits : (rest .count ≤ p .at) × (p .at - rest .count ≤ length piece)
+  across-fits = (
+    omega (arith, counts, went-past j rest stands n piece bs is-joint p e fits q some),
+    omega (arith, counts, went-inside j rest stands n piece bs is-joint p e fits q some),
+  )
+
+  pub across-done : (m : ℕ) → m ≡ plus n (p .count) → (r : Progress)
+      → run-of r (part (p .at - rest .count) piece) ≡ run-from (told (p .journal)) (part (p .at - rest .count) piece)
+      → after-run m (run-of r (part (p .at - rest .count) piece)) ≡ went j rest n piece
+  across-done m is-m r f =
+      ap (λ (k : ℕ). after-run k (run-of r (part (p .at - rest .count) piece))) is-m
+      ∙ went-on j rest stands n piece bs is-joint p e fits q some (p .at - rest .count) (ap (λ (k : ℕ). p .at - k) (sym counts))
+      (part (p .at - rest .count) piece) (part-drop (p .at - rest .count) piece) r f
+
+-- what code makes of a run
+pub after-open : (n : ℕ) (p : Progress) (bs : List ℕ) → p .end ≡ Cut → (rest : Rest) → rest ≡ kept-rest (part (p .at) bs) → (m : ℕ) → m ≡ plus n (p .count)
+    → record { journal = p .journal; rest = rest; records = m; stop = Open } ≡ after-run n (run-of p bs)
+unfolding after-run
+after-open n p bs q rest is-rest m is-m =
+    (λ i. record { journal = p .journal; rest = (is-rest ∙ ap kept-rest (part-drop (p .at) bs)) i; records = is-m i; stop = Open })
+    ∙ sym (ap (λ (x : End). ended-by x n (run-of p bs)) q)
+
+abbrev stopped-by : Journal → ℕ → ℕ → Replay
+stopped-by j m k = record { journal = j; rest = kept-rest []; records = m; stop = stop.Refused k }
+
+pub after-stopped : (n : ℕ) (p : Progress) (bs : List ℕ) (k : ℕ) → p .end ≡ Refused k → (m : ℕ) → m ≡ plus n (p .count) → (r : Replay)
+    → r ≡ stopped-by (p .journal) m k → r ≡ after-run n (run-of p bs)
+unfolding after-run
+after-stopped n p bs k q m is-m r e =
+    e ∙ ap (λ (i : ℕ). stopped-by (p .journal) i k) is-m ∙ sym (ap (λ (x : End). ended-by x n (run-of p bs)) q)
+
+pub after-over : (n : ℕ) (p : Progress) (bs : List ℕ) → p .end ≡ Left → (m : ℕ) → m ≡ plus n (p .count) → (r : Replay)
+    → r ≡ stopped-by (p .journal) m 18 → r ≡ after-run n (run-of p bs)
+unfolding after-run
+after-over n p bs q m is-m r e =
+    e ∙ ap (λ (i : ℕ). stopped-by (p .journal) i 18) is-m ∙ sym (ap (λ (x : End). ended-by x n (run-of p bs)) q)
+
+pub rest-done : (bs kept : List ℕ) → kept ≡ take (length bs) bs ++ drop (length bs) (replicate 22 0) → record { bytes = kept; count = length bs } ≡ kept-rest bs
+unfolding kept-rest
+rest-done bs kept e =
+    ap (λ (l : List ℕ). record { bytes = l; count = length bs }) (e ∙ ap (λ (l : List ℕ). l ++ drop (length bs) (replicate 22 0)) (take-length bs))
+
+-- a state that passes the test is ready
+pub feed-ready : (r : Replay) → r .journal .round .context .voters .total ≤ most → joint.stands r ≡ true
+    → (Stands Kept (told (r .journal))) × (T (rest-stands (r .rest)))
+unfolding joint.stands
+feed-ready r fits e =
+    let t = T-true e in (
+      stands-told (r .journal) fits (left-of (journal.stands (r .journal)) (rest-stands (r .rest)) t),
+      right-of (journal.stands (r .journal)) (rest-stands (r .rest)) t,
+    )
+
+pub replay-done : (p : Pairs) → p ≡ no-pairs → (bs : List ℕ) (r : Run Journal) → r ≡ run-from (pairing p) bs → after-run 0 r ≡ joint.replayed bs
+unfolding joint.replayed
+replay-done p e bs r q = ap (after-run 0) (q ∙ ap (λ (x : Pairs). run-from (pairing x) bs) e)
+
+abbrev blank : List ℕ
+blank = replicate 44 0
+
+-- two copies into an array of zeros, the second behind the first
+pub lay-done : (s t one two : List ℕ) (count : ℕ) → length s ≡ count → count + length t ≤ 44
+    → one ≡ take (length s) s ++ drop (length s) blank
+    → two ≡ take (length t) t ++ drop (length t) (midOf count (44 - count) one)
+    → record { bytes = putMid count (44 - count) one two; count = count + length t } ≡ joint.laid (s ++ t)
+unfolding joint.laid
+lay-done s t one two count l room e f = λ i. record { bytes = bytes-are i; count = sizes i }
+  where
+    sizes : count + length t ≡ length (s ++ t)
+    sizes = omega (arith, length-append s t)
+
+    first : one ≡ s ++ drop count blank
+    first =
+        e ∙ (λ i. take-length s i ++ drop (l i) blank)
+
+    later : drop count one ≡ drop count blank
+    later = ap (drop count) first ∙ drop-at s (drop count blank) count l
+
+    zeros : length (drop count blank) ≡ 44 - count
+    zeros = length-drop count blank
+
+    middle : midOf count (44 - count) one ≡ drop count blank
+    middle = ap (take (44 - count)) later ∙ take-all (44 - count) (drop count blank) (omega (arith, zeros))
+
+    none : postOf count (44 - count) one ≡ []
+    none =
+        let h : length (drop count blank) ≤ 44 - count = omega (arith, zeros) in
+        ap (drop (44 - count)) later ∙ drop-of-length-le (drop count blank) h
+
+    second : two ≡ t ++ drop (count + length t) blank
+    second =
+        f ∙ (λ i. take-length t i ++ drop (length t) (middle i)) ∙ ap (λ (x : List ℕ). t ++ x) (drop-drop (length t) count blank)
+
+    bytes-are : putMid count (44 - count) one two ≡ (s ++ t) ++ drop (length (s ++ t)) blank
+    bytes-are =
+        (λ i. (ap (take count) first ∙ take-at s (drop count blank) count l) i ++ (second i ++ none i))
+        ∙ ap (λ (x : List ℕ). s ++ x) (append-nil (t ++ drop (count + length t) blank))
+        ∙ sym (append-assoc s t (drop (count + length t) blank))
+        ∙ ap (λ (n : ℕ). (s ++ t) ++ drop n blank) sizes

@@ -16,7 +16,7 @@ use Rattle.runs.specs.Run.{Run}
 use Rattle.turns.specs.Turns.{pairing, no-pairs}
 use Rattle.journal.specs.declared.Journal.{Journal}
 use Rattle.journal.specs.Journal as journal
-use Rattle.journal.specs.Journal.{laid, told, run-from}
+use Rattle.journal.specs.Journal.{told, run-from}
 use Rattle.feeding.specs.declared.Rest.{Rest}
 use Rattle.feeding.specs.declared.Stop.{Stop}
 use Rattle.feeding.specs.declared.Stop.the-variants.{Open, Refused}
@@ -54,7 +54,7 @@ after-run n r = ended-by (r .end) n r
 
 -- before the first record
 abbrev pub started : Replay
-started = record { journal = laid (pairing no-pairs); rest = kept-rest []; records = 0; stop = Open }
+started = record { journal = journal.laid (pairing no-pairs); rest = kept-rest []; records = 0; stop = Open }
 
 -- a whole journal
 unfoldable pub replayed : List ℕ → Replay
@@ -79,8 +79,6 @@ unfoldable pub fed : Replay → List ℕ → Fed
 fed r piece =
     cond (stands r) (unless (r .stop) r (went (r .journal) (r .rest) (r .records) piece)) (record { answer = Refused 9; replay = r })
 
--- what is left of a piece, and the start of the next one
-unfoldable pub joint-of : Rest → List ℕ → Joint
-joint-of rest piece =
-    let both = bytes-of rest ++ take 22 piece in
-    record { bytes = over 44 both; count = length both }
+-- what is left of a piece, with the start of the next one behind it
+unfoldable pub laid : List ℕ → Joint
+laid bs = record { bytes = over 44 bs; count = length bs }

@@ -1,16 +1,18 @@
 // A journal's replay: as a function on bytes, and as a state that takes bytes piece by piece, so that a journal of any length is replayed in
 // constant memory.
 ghost use mathlib.Core.Path.{_≡_};
-ghost use mathlib.Core.List.{_++_};
-ghost use Prim.Native.Nat.{_+_, _≤_};
+ghost use mathlib.Core.List.{[], _++_};
+ghost use Prim.Native.Nat.{_≤_};
 ghost use lib.ListN.{length, take, drop};
 ghost use Rattle.weights.specs.Weights.{plus};
 ghost use lib.Dec.{T};
 ghost use Rattle.held_laws.specs.Kept.{Kept};
 ghost use Rattle.marks.specs.declared.End.the-variants.{Cut};
+ghost use Rattle.marks.specs.Marks.{read};
 ghost use Rattle.turns.specs.Stands.{Stands};
 ghost use Rattle.journal.specs.Journal.{told, run-of};
-ghost use Rattle.feeding.specs.Feeding.{bytes-of, rest-stands, kept-rest, after-run, started, replayed, went, stands, fed, joint-of};
+ghost use Rattle.feeding.specs.declared.Stop.the-variants.{Refused};
+ghost use Rattle.feeding.specs.Feeding.{rest-stands, kept-rest, after-run, started, replayed, went, stands, fed, laid};
 use journal::Journal;
 use journal::Progress;
 use marks::End;
@@ -74,12 +76,13 @@ fn after(records: u64, progress: Progress, bytes: &[u8]) -> Replay
     requires { ⌜ (progress .at ≤ length (now bytes)) × (progress .end ≡ Cut → length (drop (progress .at) (now bytes)) ≤ 22) ⌝ }
     ensures { λ r. ⌜ r ≡ after-run records (run-of progress (now (bytes .entry))) ⌝ }
 {
-    let end = progress.end;
     let journal = progress.journal;
+    let at = progress.at;
+    let end = progress.end;
     let seen = more(records, progress.count);
     match end {
         End::Cut => {
-            let rest = rest_of(&bytes[progress.at..]);
+            let rest = rest_of(&bytes[at..]);
             Replay {
                 journal,
                 rest,
@@ -87,58 +90,88 @@ fn after(records: u64, progress: Progress, bytes: &[u8]) -> Replay
                 stop: Stop::Open,
             }
         }
-        End::Refused(number) => {
-            let rest = rest_of(&bytes[..0]);
-            Replay {
-                journal,
-                rest,
-                records: seen,
-                stop: Stop::Refused(number),
-            }
-        }
-        End::Left => {
-            let rest = rest_of(&bytes[..0]);
-            Replay {
-                journal,
-                rest,
-                records: seen,
-                stop: Stop::Refused(18),
-            }
-        }
+        End::Refused(number) => stopped(journal, seen, number),
+        End::Left => stopped(journal, seen, 18),
+    }
+}
+
+// A refusal stops the replay, and its tail is dropped.
+fn stopped(journal: Journal, records: u64, number: u8) -> Replay
+    ensures { λ r. ⌜ r ≡ record { journal = journal; rest = kept-rest []; records = records; stop = Refused number } ⌝ }
+{
+    Replay {
+        journal,
+        rest: Rest {
+            bytes: [0u8; 22],
+            count: 0,
+        },
+        records,
+        stop: Stop::Refused(number),
     }
 }
 
 // A whole journal.
-pub fn replay(bytes: &[u8]) -> Replay
+pub fn replayed(bytes: &[u8]) -> Replay
     ensures { λ r. ⌜ r ≡ replayed (now (bytes .entry)) ⌝ }
 {
     let pairs = journal::no_pairs();
     after(0, journal::from_voters(pairs, bytes), bytes)
 }
 
-// What is left of a piece, and the start of the next one: with 22 bytes of it at hand any record is whole.
-fn join(rest: Rest, piece: &[u8]) -> Joint
-    requires { ⌜ rest .count ≤ 22 ⌝ }
-    ensures { λ r. ⌜ r ≡ joint-of rest (now (piece .entry)) ⌝ }
+// Bytes that were left, and a part of the next piece behind them. An array's length is known of a parameter.
+fn lay(held: [u8; 22], count: usize, part: &[u8]) -> Joint
+    requires { ⌜ (count ≤ 22) × (length (now part) ≤ 22) ⌝ }
+    ensures { λ r. ⌜ (r ≡ laid (take count held ++ now (part .entry))) × (length held ≡ 22) ⌝ }
 {
     let mut both = [0u8; 44];
-    let count = rest.count;
-    bytes::copy(&rest.bytes[..count], &mut both);
-    if piece.len() < 22 {
-        bytes::copy(piece, &mut both[count..]);
-        return Joint {
-            bytes: both,
-            count: count + piece.len(),
-        };
-    }
-    bytes::copy(&piece[..22], &mut both[count..]);
+    bytes::copy(&held[..count], &mut both);
+    bytes::copy(part, &mut both[count..]);
     Joint {
         bytes: both,
-        count: count + 22,
+        count: count + part.len(),
     }
 }
 
-// A piece behind the bytes that were left.
+// With 22 bytes of a piece at hand any record is whole.
+fn join(held: [u8; 22], count: usize, piece: &[u8]) -> Joint
+    requires { ⌜ count ≤ 22 ⌝ }
+    ensures { λ r. ⌜ (r ≡ laid (take count held ++ take 22 (now (piece .entry)))) × (length held ≡ 22) ⌝ }
+{
+    if piece.len() < 22 {
+        return lay(held, count, piece);
+    }
+    lay(held, count, &piece[..22])
+}
+
+// A piece behind bytes that were left.
+fn across(journal: Journal, rest: Rest, records: u64, piece: &[u8]) -> Replay
+    requires { ⌜ Stands Kept (told journal) × T (rest-stands rest) ⌝ }
+    ensures { λ r. ⌜ r ≡ went journal rest records (now (piece .entry)) ⌝ }
+{
+    let held = rest.bytes;
+    let count = rest.count;
+    let joint = join(held, count, piece);
+    let both = joint.bytes;
+    let size = joint.count;
+    let first = journal.run(&both[..size]);
+    let taken = first.count;
+    let at = first.at;
+    let end = first.end;
+    match end {
+        End::Cut => {
+            if taken == 0 {
+                return after(records, first, &both[..size]);
+            }
+            let then = first.journal;
+            let part = &piece[at - count..];
+            after(more(records, taken), then.run(part), part)
+        }
+        End::Refused(_) => after(records, first, &both[..size]),
+        End::Left => after(records, first, &both[..size]),
+    }
+}
+
+// The next piece.
 fn went(journal: Journal, rest: Rest, records: u64, piece: &[u8]) -> Replay
     requires { ⌜ Stands Kept (told journal) × T (rest-stands rest) ⌝ }
     ensures { λ r. ⌜ r ≡ went journal rest records (now (piece .entry)) ⌝ }
@@ -146,31 +179,25 @@ fn went(journal: Journal, rest: Rest, records: u64, piece: &[u8]) -> Replay
     if rest.count == 0 {
         return after(records, journal.run(piece), piece);
     }
-    let count = rest.count;
-    let joint = join(rest, piece);
-    let first = journal.run(&joint.bytes[..joint.count]);
-    let end = first.end;
-    match end {
-        End::Cut => {
-            if first.count == 0 {
-                return after(records, first, &joint.bytes[..joint.count]);
-            }
-            let told = first.journal;
-            let part = &piece[first.at - count..];
-            after(more(records, first.count), told.run(part), part)
-        }
-        End::Refused(_) => after(records, first, &joint.bytes[..joint.count]),
-        End::Left => after(records, first, &joint.bytes[..joint.count]),
-    }
+    across(journal, rest, records, piece)
+}
+
+fn read(held: [u8; 22], count: usize) -> Record
+    requires { ⌜ count ≤ 22 ⌝ }
+    ensures { λ r. ⌜ r ≡ read (take count held) ⌝ }
+{
+    marks::read(&held[..count])
 }
 
 fn is_rest(rest: Rest) -> bool
     ensures { λ r. ⌜ r ≡ rest-stands rest ⌝ }
 {
-    if 22 < rest.count {
+    let held = rest.bytes;
+    let count = rest.count;
+    if 22 < count {
         return false;
     }
-    match marks::read(&rest.bytes[..rest.count]) {
+    match read(held, count) {
         Record::Cut => true,
         Record::Whole(_) => false,
         Record::Unknown => false,

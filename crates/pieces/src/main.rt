@@ -39,7 +39,7 @@ fn main() {
         io::write_all(STDOUT_FILENO, b"cut ");
         io::print_decimal(STDOUT_FILENO, cut as u64);
         io::write_all(STDOUT_FILENO, b"\n");
-        print(feeding::replay(&bytes[..cut]));
+        print(feeding::replayed(&bytes[..cut]));
         cut += 1;
     }
     let mut step = 1;
