@@ -1,8 +1,8 @@
 -- A loop over records in code: what holds before each record, and one law for each way through the body.
 use mathlib.Core.List.{List}
 use mathlib.Core.Logic.{_⊎_, inl, inr}
-use mathlib.Core.Path.{_≡_, refl, sym, ap, subst, _∙_}
-use Prim.Native.Nat.{ℕ, zero, suc, _+_, _-_, _^_, _≤_, _<_}
+use mathlib.Core.Path.{_≡_, refl, sym, ap, _∙_}
+use Prim.Native.Nat.{ℕ, _+_, _-_, _^_, _≤_, _<_}
 use native.Mathlib.Omega.{arith}
 use mir.Syntax.{w64}
 use mir.Val.{Fits}
@@ -13,11 +13,11 @@ use Rattle.marks.specs.declared.Record.{Record}
 use Rattle.marks.specs.declared.Record.the-variants as is
 use Rattle.marks.proofs.Record.{the-type}
 use Rattle.marks.specs.declared.End.{End}
-use Rattle.marks.specs.declared.End.the-variants.{Cut, Refused, Left}
+use Rattle.marks.specs.declared.End.the-variants.{Cut}
 use Rattle.marks.specs.declared.Turn.{Turn}
 use Rattle.marks.specs.declared.Turn.the-variants.{Goes, Over}
 use Rattle.marks.specs.Marks.{read, size, fields, ends, ending}
-use Rattle.runs.specs.Run.{Next, goes, stops, leaves, Run, ended, ran, counted}
+use Rattle.runs.specs.Run.{Next, goes, stops, leaves, ended, ran, counted}
 use Rattle.runs.specs.Tried.{Tried, taken-or-not, tried}
 use Rattle.runs.proofs.Turns.{part-drop, whole-fits, whole-fields, run-start, run-goes, run-stops, run-leaves, run-cut, run-unknown}
 

@@ -26,7 +26,7 @@ use Rattle.runs.specs.Run.{Next, goes, stops, leaves}
 use Rattle.runs.specs.Tried.{Tried, taken-or-not, tried}
 use Rattle.runs.proofs.Loops.{Going}
 use Rattle.growing.specs.Growing.{grown, added}
-use Rattle.growing.proofs.Adds.{left-by, added-tried}
+use Rattle.growing.proofs.Adds.{added-tried}
 use Rattle.voting.specs.declared.Kind.the-variants as kind
 use Rattle.voting.specs.Voting.{Voting, pair-in, answered, turn-of, kind-of, counted, with-blocks, voted}
 
@@ -159,6 +159,11 @@ module _ (f : Frame) (h : Held) where
     pub record-keeps : (m : Mark) (fs : List ℕ) (g : Frame) (i : Held) (x : Turn)
         → record { state = both g i; turn = x } ≡ tried voted (both f h) m fs → Kept g i
     record-keeps m fs g i x e = subst (λ (r : Tried Voting). Kept (r .state .frame) (r .state .held)) (sym e) (tried-keeps m fs)
+
+    -- the same of the step
+    pub voted-kept : (m : Mark) (fs : List ℕ) (v : Voting) → voted (both f h) m fs ≡ goes v → Kept (v .frame) (v .held)
+    unfolding tried
+    voted-kept m fs v e = record-keeps m fs (v .frame) (v .held) Goes (ap (taken-or-not (both f h)) (sym e))
 
 -- what holds before each record of the loop
 abbrev pub Voted-so-far : Frame → Held → List ℕ → Frame → Held → ℕ → ℕ → Type 0

@@ -8,7 +8,7 @@ use Rattle.context.specs.declared.Phase.the-variants.{Prevote, Precommit}
 use Rattle.tracker.specs.declared.Pair.{Pair}
 use Rattle.judging.specs.declared.ImportResult.{ImportResult}
 use Rattle.judging.specs.declared.ImportResult.the-variants.{Outside, Counted, Duplicated, Equivocated, Ignored, Refused}
-use Rattle.importing.specs.Import.{Frame, Held, Taken, import}
+use Rattle.importing.specs.Import.{Frame, Held, import}
 use Rattle.held_laws.specs.Reached.{with-table}
 use Rattle.marks.specs.declared.Mark.{Mark}
 use Rattle.marks.specs.declared.Mark.the-variants.{Vt, Rt, Bk, Op, Pv, Pc}

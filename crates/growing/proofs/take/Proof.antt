@@ -1,4 +1,4 @@
-use mathlib.Core.Path.{sym, ap, _∙_}
+use mathlib.Core.Path.{ap, _∙_}
 use Rattle.marks.specs.Marks.{size}
 use Rattle.runs.specs.Tried.{tried}
 use Rattle.growing.specs.Growing.{grown}

@@ -1,4 +1,4 @@
-use mathlib.Core.Path.{sym, ap, _∙_}
+use mathlib.Core.Path.{sym, ap}
 use Rattle.growing.specs.Growing.{turn-of}
 use borrow.Author.Needs.{needs}
 use Rattle.growing.proofs.turn.Statement.{statement}
