@@ -4,50 +4,86 @@ use libc::STDIN_FILENO;
 use libc::STDOUT_FILENO;
 use listing::Written;
 
+struct Piece {
+    replay: Replay,
+    at: usize,
+}
+
 fn print(replay: Replay) {
     let mut out = [0u8; 512];
-    let Written::Bytes(n) = report::print(replay, &mut out) else {
+    let Written::Bytes(size) = report::print(replay, &mut out) else {
         return;
     };
-    if n <= 512 {
-        io::write_all(STDOUT_FILENO, &out[..n]);
+    if 512 < size {
+        return;
+    }
+    io::write_all(STDOUT_FILENO, &out[..size]);
+}
+
+fn say(name: &[u8], number: usize) {
+    io::write_all(STDOUT_FILENO, name);
+    io::print_decimal(STDOUT_FILENO, number as u64);
+    io::write_all(STDOUT_FILENO, b"\n");
+}
+
+// The first bytes alone.
+fn cut(bytes: &[u8], at: usize) {
+    if bytes.len() < at {
+        return;
+    }
+    say(b"cut ", at);
+    print(feeding::replayed(&bytes[..at]));
+}
+
+fn cuts(bytes: &[u8]) {
+    for at in 0..bytes.len() {
+        cut(bytes, at);
+    }
+    cut(bytes, bytes.len());
+}
+
+// The piece at a place, of a size or up to the end.
+fn turn(before: Replay, bytes: &[u8], at: usize, size: usize) -> Piece {
+    if bytes.len() <= at {
+        return Piece { replay: before, at };
+    }
+    if bytes.len() - at <= size {
+        let fed = before.feed(&bytes[at..]);
+        let replay = fed.replay;
+        return Piece {
+            replay,
+            at: bytes.len(),
+        };
+    }
+    let fed = before.feed(&bytes[at..at + size]);
+    let replay = fed.replay;
+    Piece {
+        replay,
+        at: at + size,
     }
 }
 
-fn by_pieces(bytes: &[u8], step: usize) -> Replay {
+fn by_pieces(bytes: &[u8], size: usize) -> Replay {
     let mut replay = Replay::new();
     let mut at = 0;
-    while at < bytes.len() {
-        let left = bytes.len() - at;
-        let size = if left < step { left } else { step };
-        let fed = replay.feed(&bytes[at..at + size]);
-        replay = fed.replay;
-        if size == 0 {
-            break;
-        }
-        at = at + size;
+    for _ in 0..bytes.len() {
+        let next = turn(replay, bytes, at, size);
+        replay = next.replay;
+        at = next.at;
     }
     replay
+}
+
+fn sizes(bytes: &[u8]) {
+    for size in 1..41 {
+        say(b"pieces ", size);
+        print(by_pieces(bytes, size));
+    }
 }
 
 fn main() {
     let mut space = io::buffer();
     let got = io::read_full(STDIN_FILENO, &mut space);
-    let bytes = &space[..got];
-    let mut cut = 0;
-    while cut <= got {
-        io::write_all(STDOUT_FILENO, b"cut ");
-        io::print_decimal(STDOUT_FILENO, cut as u64);
-        io::write_all(STDOUT_FILENO, b"\n");
-        print(feeding::replayed(&bytes[..cut]));
-        cut += 1;
-    }
-    let mut step = 1;
-    while step <= 40 {
-        io::write_all(STDOUT_FILENO, b"pieces ");
-        io::print_decimal(STDOUT_FILENO, step as u64);
-        io::write_all(STDOUT_FILENO, b"\n");
-        print(by_pieces(bytes, step));
-        step += 1;
-    }
+    cuts(&space[..got]);
+    sizes(&space[..got]);
 }

@@ -4,22 +4,40 @@ use libc::STDIN_FILENO;
 use libc::STDOUT_FILENO;
 use listing::Written;
 
-fn main() {
+struct Piece {
+    replay: Replay,
+    got: usize,
+}
+
+// The next piece of standard input.
+fn turn(before: Replay) -> Piece {
     let mut space = io::large_buffer();
+    let got = io::read_full(STDIN_FILENO, &mut space);
+    let fed = before.feed(&space[..got]);
+    let replay = fed.replay;
+    Piece { replay, got }
+}
+
+// No input has more pieces.
+fn read_all() -> Replay {
     let mut replay = Replay::new();
-    loop {
-        let got = io::read_full(STDIN_FILENO, &mut space);
-        if got == 0 {
+    for _ in 0..18446744073709551615u64 {
+        let next = turn(replay);
+        replay = next.replay;
+        if next.got == 0 {
             break;
         }
-        let fed = replay.feed(&space[..got]);
-        replay = fed.replay;
     }
+    replay
+}
+
+fn main() {
     let mut out = [0u8; 512];
-    let Written::Bytes(n) = report::print(replay, &mut out) else {
+    let Written::Bytes(size) = report::print(read_all(), &mut out) else {
         return;
     };
-    if n <= 512 {
-        io::write_all(STDOUT_FILENO, &out[..n]);
+    if 512 < size {
+        return;
     }
+    io::write_all(STDOUT_FILENO, &out[..size]);
 }

@@ -1,99 +1,77 @@
-// Prints the answers after every vote record of a journal, and document 01's lines at its end.
+// Prints the answers after every vote record of a journal, and document 01's lines at its end. Bytes go in one by one, so that the end
+// of each record is seen.
 use feeding::Replay;
-use feeding::Stop;
 use libc::STDIN_FILENO;
 use libc::STDOUT_FILENO;
 use listing::Written;
-use marks::Mark;
-use marks::Record;
 
-// The lines of a replay but for the last bytes, which are the tail's where no byte is left.
+struct Piece {
+    replay: Replay,
+    got: usize,
+}
+
+// The lines of a replay, but for so many bytes at their end.
 fn print(replay: Replay, less: usize) {
     let mut out = [0u8; 512];
-    let Written::Bytes(n) = report::print(replay, &mut out) else {
+    let Written::Bytes(size) = report::print(replay, &mut out) else {
         return;
     };
-    if n <= 512 {
-        if less <= n {
-            io::write_all(STDOUT_FILENO, &out[..n - less]);
+    if 512 < size {
+        return;
+    }
+    if size < less {
+        return;
+    }
+    let shown = size - less;
+    io::write_all(STDOUT_FILENO, &out[..shown]);
+}
+
+// A record of a mark that begins with 'P' is a vote; after it no byte is left, so that the last line is `tail 0`.
+fn step(before: Replay, byte: u8) -> Replay {
+    let rest = before.rest;
+    let bytes = rest.bytes;
+    let piece = [byte];
+    let fed = before.feed(&piece);
+    let replay = fed.replay;
+    if bytes[0] == b'P' {
+        if before.records < replay.records {
+            print(replay, 7);
         }
     }
+    replay
 }
 
-fn is_vote(mark: Mark) -> bool {
-    match mark {
-        Mark::Pv => true,
-        Mark::Pc => true,
-        Mark::Vt => false,
-        Mark::Rt => false,
-        Mark::Bk => false,
-        Mark::Op => false,
-    }
-}
-
-fn show(replay: Replay, mark: Mark) {
-    let stop = replay.stop;
-    match stop {
-        Stop::Refused(_) => {}
-        Stop::Open => {
-            if is_vote(mark) {
-                print(replay, 7);
-            }
-        }
-    }
-}
-
-struct Followed {
-    replay: Replay,
-    at: usize,
-}
-
-// The whole records of some bytes, one by one.
-fn follow(before: Replay, bytes: &[u8]) -> Followed {
+fn steps(before: Replay, bytes: &[u8]) -> Replay {
     let mut replay = before;
-    let mut at = 0;
-    loop {
-        let part = &bytes[at..];
-        let Record::Whole(mark) = marks::read(part) else {
-            break;
-        };
-        let size = 2 + marks::size(mark);
-        let fed = replay.feed(&part[..size]);
-        replay = fed.replay;
-        show(replay, mark);
-        at = at + size;
+    for at in 0..bytes.len() {
+        replay = step(replay, bytes[at]);
     }
-    Followed { replay, at }
+    replay
 }
 
-// What is left of some bytes comes to their start.
-fn shift(space: &mut [u8; 65536], at: usize, end: usize) -> usize {
-    let mut to = 0;
-    let mut from = at;
-    while from < end {
-        if 65536 <= from {
+// The next piece of standard input.
+fn turn(before: Replay) -> Piece {
+    let mut space = io::buffer();
+    let got = io::read_full(STDIN_FILENO, &mut space);
+    Piece {
+        replay: steps(before, &space[..got]),
+        got,
+    }
+}
+
+// No input has more pieces.
+fn read_all() -> Replay {
+    let mut replay = Replay::new();
+    for _ in 0..18446744073709551615u64 {
+        let next = turn(replay);
+        replay = next.replay;
+        if next.got == 0 {
             break;
         }
-        space[to] = space[from];
-        to += 1;
-        from += 1;
     }
-    to
+    replay
 }
 
 fn main() {
-    let mut space = io::large_buffer();
-    let mut replay = Replay::new();
-    let mut kept = 0;
-    loop {
-        let got = io::read_full(STDIN_FILENO, &mut space[kept..]);
-        if got == 0 {
-            break;
-        }
-        let followed = follow(replay, &space[..kept + got]);
-        replay = followed.replay;
-        kept = shift(&mut space, followed.at, kept + got);
-    }
-    let fed = replay.feed(&space[..kept]);
-    print(fed.replay, 0);
+    print(read_all(), 0);
 }
