@@ -160,7 +160,7 @@ fn no_votes() -> Votes
     }
 }
 
-fn opened(number: u64, voters: VoterSet, table: BlockTable, base: u8) -> Round
+pub fn opened(number: u64, voters: VoterSet, table: BlockTable, base: u8) -> Round
     ensures { λ r. ⌜ r ≡ opened number voters table base ⌝ }
 {
     let graph = VoteGraph::new(base);
@@ -189,7 +189,7 @@ fn opened(number: u64, voters: VoterSet, table: BlockTable, base: u8) -> Round
     }
 }
 
-fn nobody() -> VoterSet
+pub fn nobody() -> VoterSet
     ensures { λ r. ⌜ r ≡ nobody ⌝ }
 {
     VoterSet {
@@ -201,7 +201,7 @@ fn nobody() -> VoterSet
     }
 }
 
-fn no_blocks() -> BlockTable
+pub fn no_blocks() -> BlockTable
     ensures { λ r. ⌜ r ≡ no-blocks ⌝ }
 {
     BlockTable {
@@ -253,7 +253,7 @@ fn index_fits(index: Index) -> bool
     }
 }
 
-fn block_of<'a>(ids: &'a [u32; 256], numbers: &'a [u32; 256], found: Found) -> Told
+pub fn block_of<'a>(ids: &'a [u32; 256], numbers: &'a [u32; 256], found: Found) -> Told
     ensures { λ r. ⌜ r ≡ block-of (now (ids .entry)) (now (numbers .entry)) found ⌝ }
 {
     match found {
@@ -284,7 +284,7 @@ fn primary_of(nth: Nth) -> Primary
 }
 
 // Voters heard in a phase: those of the base's row, under which every vote is.
-fn heard_in(graph: VoteGraph, phase: Phase) -> u32
+pub fn heard_in(graph: VoteGraph, phase: Phase) -> u32
     ensures { λ r. ⌜ r ≡ heard-in graph phase ⌝ }
 {
     let rows = graph.rows;

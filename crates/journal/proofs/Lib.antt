@@ -1,0 +1,4 @@
+pub mod Turning
+pub mod Through
+pub mod Laid
+pub mod Done

@@ -1,0 +1,12 @@
+pub mod Holds
+pub mod Feeds
+pub mod Rounds
+pub mod Lasts
+pub mod Ends
+pub mod Cuts
+pub mod Votes
+pub mod Turned
+pub mod Numbers
+pub mod Passes
+pub mod Examples
+pub mod CaseJ

@@ -1,0 +1,6 @@
+pub mod Pieces
+pub mod Ends
+pub mod Weighs
+pub mod Turned
+pub mod Passed
+pub mod Rounds

@@ -1,0 +1,1 @@
+// No code: what the replay of a journal promises.

@@ -1,0 +1,15 @@
+pub mod Fuels
+pub mod Counts
+pub mod Turns
+pub mod Inductions
+pub mod Loops
+pub mod Appends
+pub mod Rests
+pub mod Joints
+pub mod Parses
+pub mod Folds
+pub mod Withins
+pub mod Cuts
+pub mod Simulations
+pub mod Examples
+pub mod Lefts

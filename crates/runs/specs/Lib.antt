@@ -1,0 +1,4 @@
+pub mod Run
+pub mod Follow
+pub mod Parsed
+pub mod Tried

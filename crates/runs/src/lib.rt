@@ -1,0 +1,1 @@
+// Loops over the records of some bytes: definitions and laws, no code.

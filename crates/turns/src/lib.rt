@@ -1,0 +1,1 @@
+// No code: the turns of a journal, and its replay as a function on bytes.

@@ -1,0 +1,268 @@
+// The journal's third turn: votes, and blocks between them, on lent columns. A round that keeps the shape keeps it at each record, so nothing
+// is tested again.
+ghost use mathlib.Core.Path.{_≡_};
+ghost use Prim.Native.Nat.{_≤_};
+ghost use lib.ListN.{length, drop};
+ghost use Rattle.held_laws.specs.Kept.{Kept};
+ghost use Rattle.marks.specs.Marks as marks;
+ghost use Rattle.runs.specs.Run.{Run, ran};
+ghost use Rattle.runs.specs.Tried.{Tried, tried};
+ghost use Rattle.voting.specs.Voting.{Voting, pair-in, turn-of, kind-of, voted};
+use context::Phase;
+use importing::Standing;
+use judging::ImportResult;
+use marks::End;
+use marks::Mark;
+use marks::Record;
+use marks::Turn;
+use tracker::Pair;
+
+// What a mark is in this turn.
+pub enum Kind {
+    Block,
+    Vote(Phase),
+    Other,
+}
+
+// What a record leaves beside the columns, and whether the turn goes on.
+struct Took {
+    turn: Turn,
+    blocks: usize,
+    standing: Standing,
+}
+
+// What a run over some bytes leaves, the records taken, the bytes that they have, and why no more are taken.
+pub struct Ran {
+    pub blocks: usize,
+    pub standing: Standing,
+    pub count: u64,
+    pub at: usize,
+    pub end: End,
+}
+
+// A vote's target, number and signature.
+fn pair(fields: &[u8]) -> Pair
+    requires { ⌜ length (now fields) ≡ 20 ⌝ }
+    ensures { λ r. ⌜ r ≡ pair-in (now (fields .entry)) ⌝ }
+{
+    Pair {
+        target: marks::word(fields, 4),
+        number: marks::word(fields, 8),
+        signature: marks::long(fields, 12),
+    }
+}
+
+// Only a refused vote stops a journal: non-voters, duplicates and third pairs do not.
+fn turn(answer: ImportResult) -> Turn
+    ensures { λ r. ⌜ r ≡ turn-of answer ⌝ }
+{
+    match answer {
+        ImportResult::Refused(number) => Turn::Over(End::Refused(number)),
+        ImportResult::Outside => Turn::Goes,
+        ImportResult::Counted => Turn::Goes,
+        ImportResult::Duplicated => Turn::Goes,
+        ImportResult::Equivocated(_) => Turn::Goes,
+        ImportResult::Ignored => Turn::Goes,
+    }
+}
+
+fn kind_of(mark: Mark) -> Kind
+    ensures { λ r. ⌜ r ≡ kind-of mark ⌝ }
+{
+    match mark {
+        Mark::Bk => Kind::Block,
+        Mark::Pv => Kind::Vote(Phase::Prevote),
+        Mark::Pc => Kind::Vote(Phase::Precommit),
+        Mark::Vt => Kind::Other,
+        Mark::Rt => Kind::Other,
+        Mark::Op => Kind::Other,
+    }
+}
+
+// A record in the third turn.
+fn take<'a>(
+    voters: &'a [u32; 64],
+    weights: &'a [u64; 64],
+    size: usize,
+    total: u64,
+    threshold: u64,
+    number: u64,
+    ids: &mut [u32; 256],
+    heights: &mut [u32; 256],
+    parents: &mut [u8; 256],
+    blocks: usize,
+    base: u8,
+    used: &mut [bool; 256],
+    above: &mut [u8; 256],
+    rows: &mut [[u64; 2]; 256],
+    order: &mut [u8; 256],
+    heads: &mut [u8; 256],
+    times: &mut [u8; 128],
+    places: &mut [u8; 128],
+    signatures: &mut [u64; 128],
+    targets: &mut [u32; 128],
+    numbers: &mut [u32; 128],
+    seconds: &mut [u64; 128],
+    entries: &mut [u8; 256],
+    standing: Standing,
+    mark: Mark,
+    fields: &[u8],
+) -> Took
+    requires { ⌜ Kept (record { number = number; voters = record { ids = now voters; weights = now weights; count = size; threshold = threshold; total = total }; table = record { ids = now ids; numbers = now heights; parents = now parents; count = blocks }; base = base }) (record { graph = record { used = now used; above = now above; rows = now rows; order = now order; listed = standing .listed; heads = now heads; tips = standing .tips }; votes = record { times = now times; places = now places; signatures = now signatures; targets = now targets; numbers = now numbers; seconds = now seconds }; entries = now entries; count = standing .count; equivocations = standing .equivocations; heard = standing .heard; answers = standing .answers }) × (length (now fields) ≡ marks.size mark) ⌝ }
+    ensures { λ r. ⌜ _≡_ {A = Tried Voting} (record { state = record { frame = record { number = number; voters = record { ids = now (voters .entry); weights = now (weights .entry); count = size; threshold = threshold; total = total }; table = record { ids = now (ids .exit); numbers = now (heights .exit); parents = now (parents .exit); count = r .blocks }; base = base }; held = record { graph = record { used = now (used .exit); above = now (above .exit); rows = now (rows .exit); order = now (order .exit); listed = r .standing .listed; heads = now (heads .exit); tips = r .standing .tips }; votes = record { times = now (times .exit); places = now (places .exit); signatures = now (signatures .exit); targets = now (targets .exit); numbers = now (numbers .exit); seconds = now (seconds .exit) }; entries = now (entries .exit); count = r .standing .count; equivocations = r .standing .equivocations; heard = r .standing .heard; answers = r .standing .answers } }; turn = r .turn }) (tried voted (record { frame = record { number = number; voters = record { ids = now (voters .entry); weights = now (weights .entry); count = size; threshold = threshold; total = total }; table = record { ids = now (ids .entry); numbers = now (heights .entry); parents = now (parents .entry); count = blocks }; base = base }; held = record { graph = record { used = now (used .entry); above = now (above .entry); rows = now (rows .entry); order = now (order .entry); listed = standing .listed; heads = now (heads .entry); tips = standing .tips }; votes = record { times = now (times .entry); places = now (places .entry); signatures = now (signatures .entry); targets = now (targets .entry); numbers = now (numbers .entry); seconds = now (seconds .entry) }; entries = now (entries .entry); count = standing .count; equivocations = standing .equivocations; heard = standing .heard; answers = standing .answers } }) mark (now (fields .entry))) ⌝ }
+{
+    match kind_of(mark) {
+        Kind::Block => {
+            let took = growing::add(ids, heights, parents, blocks, fields);
+            let turn = took.turn;
+            Took {
+                turn,
+                blocks: took.blocks,
+                standing,
+            }
+        }
+        Kind::Vote(phase) => {
+            let signer = marks::word(fields, 0);
+            let cast = pair(fields);
+            let step = importing::import(
+                voters,
+                weights,
+                size,
+                total,
+                threshold,
+                number,
+                ids,
+                heights,
+                parents,
+                blocks,
+                base,
+                used,
+                above,
+                rows,
+                order,
+                heads,
+                times,
+                places,
+                signatures,
+                targets,
+                numbers,
+                seconds,
+                entries,
+                standing,
+                phase,
+                signer,
+                cast,
+            );
+            let answer = step.answer;
+            let standing = step.standing;
+            Took {
+                turn: turn(answer),
+                blocks,
+                standing,
+            }
+        }
+        Kind::Other => Took {
+            turn: Turn::Over(End::Refused(18)),
+            blocks,
+            standing,
+        },
+    }
+}
+
+// The records of some bytes.
+pub fn run<'a>(
+    voters: &'a [u32; 64],
+    weights: &'a [u64; 64],
+    size: usize,
+    total: u64,
+    threshold: u64,
+    number: u64,
+    ids: &mut [u32; 256],
+    heights: &mut [u32; 256],
+    parents: &mut [u8; 256],
+    blocks: usize,
+    base: u8,
+    used: &mut [bool; 256],
+    above: &mut [u8; 256],
+    rows: &mut [[u64; 2]; 256],
+    order: &mut [u8; 256],
+    heads: &mut [u8; 256],
+    times: &mut [u8; 128],
+    places: &mut [u8; 128],
+    signatures: &mut [u64; 128],
+    targets: &mut [u32; 128],
+    numbers: &mut [u32; 128],
+    seconds: &mut [u64; 128],
+    entries: &mut [u8; 256],
+    standing: Standing,
+    bytes: &[u8],
+) -> Ran
+    requires { ⌜ Kept (record { number = number; voters = record { ids = now voters; weights = now weights; count = size; threshold = threshold; total = total }; table = record { ids = now ids; numbers = now heights; parents = now parents; count = blocks }; base = base }) (record { graph = record { used = now used; above = now above; rows = now rows; order = now order; listed = standing .listed; heads = now heads; tips = standing .tips }; votes = record { times = now times; places = now places; signatures = now signatures; targets = now targets; numbers = now numbers; seconds = now seconds }; entries = now entries; count = standing .count; equivocations = standing .equivocations; heard = standing .heard; answers = standing .answers }) ⌝ }
+    ensures { λ r. ⌜ _≡_ {A = Run Voting} (record { state = record { frame = record { number = number; voters = record { ids = now (voters .entry); weights = now (weights .entry); count = size; threshold = threshold; total = total }; table = record { ids = now (ids .exit); numbers = now (heights .exit); parents = now (parents .exit); count = r .blocks }; base = base }; held = record { graph = record { used = now (used .exit); above = now (above .exit); rows = now (rows .exit); order = now (order .exit); listed = r .standing .listed; heads = now (heads .exit); tips = r .standing .tips }; votes = record { times = now (times .exit); places = now (places .exit); signatures = now (signatures .exit); targets = now (targets .exit); numbers = now (numbers .exit); seconds = now (seconds .exit) }; entries = now (entries .exit); count = r .standing .count; equivocations = r .standing .equivocations; heard = r .standing .heard; answers = r .standing .answers } }; count = r .count; rest = drop (r .at) (now (bytes .entry)); end = r .end }) (ran voted (record { frame = record { number = number; voters = record { ids = now (voters .entry); weights = now (weights .entry); count = size; threshold = threshold; total = total }; table = record { ids = now (ids .entry); numbers = now (heights .entry); parents = now (parents .entry); count = blocks }; base = base }; held = record { graph = record { used = now (used .entry); above = now (above .entry); rows = now (rows .entry); order = now (order .entry); listed = standing .listed; heads = now (heads .entry); tips = standing .tips }; votes = record { times = now (times .entry); places = now (places .entry); signatures = now (signatures .entry); targets = now (targets .entry); numbers = now (numbers .entry); seconds = now (seconds .entry) }; entries = now (entries .entry); count = standing .count; equivocations = standing .equivocations; heard = standing .heard; answers = standing .answers } }) (now (bytes .entry))) ⌝ }
+    ensures { λ r. ⌜ (r .count ≤ r .at) × (r .at ≤ length (now (bytes .entry))) ⌝ }
+    ensures { λ r. ⌜ Kept (record { number = number; voters = record { ids = now (voters .entry); weights = now (weights .entry); count = size; threshold = threshold; total = total }; table = record { ids = now (ids .exit); numbers = now (heights .exit); parents = now (parents .exit); count = r .blocks }; base = base }) (record { graph = record { used = now (used .exit); above = now (above .exit); rows = now (rows .exit); order = now (order .exit); listed = r .standing .listed; heads = now (heads .exit); tips = r .standing .tips }; votes = record { times = now (times .exit); places = now (places .exit); signatures = now (signatures .exit); targets = now (targets .exit); numbers = now (numbers .exit); seconds = now (seconds .exit) }; entries = now (entries .exit); count = r .standing .count; equivocations = r .standing .equivocations; heard = r .standing .heard; answers = r .standing .answers }) ⌝ }
+{
+    let mut grown = blocks;
+    let mut standing = standing;
+    let mut taken = 0u64;
+    let mut at = 0;
+    loop {
+        let part = &bytes[at..];
+        let Record::Whole(mark) = marks::read(part) else {
+            return Ran {
+                blocks: grown,
+                standing,
+                count: taken,
+                at,
+                end: marks::ending(part),
+            };
+        };
+        let fields = marks::fields(part, mark);
+        let took = take(
+            voters,
+            weights,
+            size,
+            total,
+            threshold,
+            number,
+            ids,
+            heights,
+            parents,
+            grown,
+            base,
+            used,
+            above,
+            rows,
+            order,
+            heads,
+            times,
+            places,
+            signatures,
+            targets,
+            numbers,
+            seconds,
+            entries,
+            standing,
+            mark,
+            fields,
+        );
+        let turn = took.turn;
+        grown = took.blocks;
+        standing = took.standing;
+        match turn {
+            Turn::Goes => {
+                taken = taken + 1;
+                at = at + 2 + fields.len();
+            }
+            Turn::Over(end) => {
+                return Ran {
+                    blocks: grown,
+                    standing,
+                    count: taken,
+                    at,
+                    end,
+                };
+            }
+        }
+    }
+}
