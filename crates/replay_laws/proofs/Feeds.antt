@@ -28,7 +28,8 @@ use Rattle.journal.specs.Journal as journal
 use Rattle.journal.specs.Journal.{laid, told, run-from}
 use Rattle.round.specs.Calls.{opened}
 use Rattle.round_laws.proofs.Keeps.{on-true}
-use Rattle.turns.proofs.Keeps.{took-kept}
+use Rattle.turns.proofs.Keeps.{took-kept, ran-has}
+use Rattle.feeding.proofs.Goes.{after-counted}
 use Rattle.journal.proofs.Laid.{told-laid, stands-told, laid-stands}
 use Rattle.journal.proofs.Turning.{from-ended, from-counted}
 use Rattle.feeding.specs.declared.Stop.{Stop}
@@ -37,7 +38,7 @@ use Rattle.feeding.specs.declared.Replay.{Replay}
 use Rattle.feeding.specs.declared.Fed.{Fed}
 use Rattle.feeding.specs.Feeding.{bytes-of, is-cut, rest-stands, over, kept-rest, ended-by, after-run, started, replayed, went, stands, answered, unless, fed}
 use Rattle.replay_laws.specs.Pieces.{fed-all}
-use Rattle.replay_laws.proofs.Holds.{ran-has, never-left}
+use Rattle.replay_laws.proofs.Holds.{never-left}
 
 -- bytes that are kept are read again
 pub rest-again : (bs : List ℕ) → bytes-of (kept-rest bs) ≡ bs
@@ -120,19 +121,6 @@ pub fed-nine : (r : Replay) (b : List ℕ) → stands r ≡ false → fed r b �
 unfolding fed
 fed-nine r b e = rw e
 
--- records counted before a run
-after-counted : (n m : ℕ) (r : Run Journal) → after-run (plus n m) r ≡ after-run n (counted m r)
-unfolding after-run counted
-after-counted n m r = go (r .end)
-  where
-    sums : plus (plus n m) (r .count) ≡ plus n (m + r .count)
-    sums = omega arith
-
-    go : (x : End) → ended-by x (plus n m) r ≡ ended-by x n (counted m r)
-    go end.Cut = ap (λ (k : ℕ). record { journal = r .state; rest = kept-rest (r .rest); records = k; stop = Open }) sums
-    go (end.Refused k) = ap (λ (c : ℕ). record { journal = r .state; rest = kept-rest []; records = c; stop = Refused k }) sums
-    go end.Left = ap (λ (c : ℕ). record { journal = r .state; rest = kept-rest []; records = c; stop = Refused 18 }) sums
-
 journal-stands : (r : Replay) → T (stands r) → T (journal.stands (r .journal))
 unfolding stands
 journal-stands r t = left-of (journal.stands (r .journal)) _ t
@@ -152,7 +140,7 @@ module _ (j : turns.Journal) (n : ℕ) (a b : List ℕ) where
       → after-run n (run-from j (a ++ b)) ≡ after-run (plus n (before .count)) (run-from (before .state) (before .rest ++ b))
   after-goes-on e =
       ap (after-run n) (from-counted j (before .state) (before .count) (a ++ b) (before .rest ++ b) (append-cut took b j a e))
-      ∙ sym (after-counted n (before .count) (run-from (before .state) (before .rest ++ b)))
+      ∙ after-counted n (before .count) (run-from (before .state) (before .rest ++ b))
 
   fed-after : Stands Kept j → fed (after-run n (run-from j a)) b ≡ answered (after-run n (run-from j (a ++ b)))
   fed-after s = go (before .end) refl

@@ -43,14 +43,8 @@ use Rattle.voting.specs.Voting as vote
 use Rattle.voting.specs.Voting.{Voting, pair-in, counted, with-blocks, voted}
 use Rattle.turns.specs.Turns.{Journal, pairing, growing, voting, seated, rooted, opened-round, based, took, no-pairs, replayed}
 use Rattle.turns.specs.Stands.{Stands}
-use Rattle.turns.proofs.Keeps.{Then, took-kept, took-reached}
+use Rattle.turns.proofs.Keeps.{Then, took-kept, took-reached, ran-has}
 use Rattle.replay_laws.specs.Weighs.{Weighs}
-
--- a property that every record keeps, from a state on
-pub ran-has : {S : Type 0} (step : S → Mark → List ℕ → Next S) (Q : S → Type 0) → ((s : S) → Q s → (m : Mark) (fs : List ℕ) → Then Q (step s m fs))
-    → (s : S) (bs : List ℕ) → Q s → Q (ran step s bs .state)
-ran-has {S} step Q keeps s bs q =
-    run-simulates step step (λ (s : S). s) Q (λ s t m fs p e. (e, subst (Then Q) e (keeps s p m fs))) (λ s m fs k p e. e) s bs q .1
 
 -- the shape rules, and in the third turn a round that calls reach
 pub replay-kept : (bs : List ℕ) → Stands Kept (replayed bs .state)

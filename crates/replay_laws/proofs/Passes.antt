@@ -10,7 +10,8 @@ use Rattle.held_laws.specs.Kept.{Untaken}
 use Rattle.held_laws.proofs.Keeps.{import-refused}
 use Rattle.marks.specs.Marks.{word}
 use Rattle.runs.specs.Run.{Next, goes}
-use Rattle.voting.specs.Voting.{Voting, pair-in, mark-of, answered, counted, voted}
+use Rattle.voting.specs.Voting.{Voting, pair-in, answered, counted, voted}
+use Rattle.replay_laws.specs.Marked.{mark-of}
 use Rattle.turns.specs.Turns.{voting, took}
 use Rattle.replay_laws.specs.Passed.{Passed}
 use Rattle.replay_laws.proofs.Votes.{vote-counted}

@@ -34,11 +34,11 @@ use Rattle.voting.specs.Voting as vote
 use Rattle.voting.specs.Voting.{Voting}
 use Rattle.turns.specs.Turns.{Journal, pairing, growing, voting, took, no-pairs, replayed}
 use Rattle.turns.specs.Stands.{Stands}
-use Rattle.turns.proofs.Keeps.{Then, took-stands}
+use Rattle.turns.proofs.Keeps.{Then, took-stands, ran-has}
 use Rattle.journal.specs.Journal as journal
 use Rattle.journal.specs.Journal.{round-of}
 use Rattle.journal.proofs.Laid.{held-of, laid-stands}
-use Rattle.replay_laws.proofs.Holds.{ran-has, voted-by, through-then}
+use Rattle.replay_laws.proofs.Holds.{voted-by, through-then}
 
 abbrev at : Frame → Held → Voting
 at f h = record { frame = f; held = h }

@@ -22,7 +22,8 @@ use Rattle.marks.proofs.Parts.{whole-more, fields-more}
 use Rattle.runs.specs.Run.{Next}
 use Rattle.runs.specs.Parsed.{Entry, parsed}
 use Rattle.runs.proofs.Parses.{parsed-whole}
-use Rattle.voting.specs.Voting.{Voting, pair-in, mark-of, answered, counted, voted}
+use Rattle.voting.specs.Voting.{Voting, pair-in, answered, counted, voted}
+use Rattle.replay_laws.specs.Marked.{mark-of}
 
 -- the record of a vote
 abbrev pub vote-entry : Phase → ℕ → Pair → Entry

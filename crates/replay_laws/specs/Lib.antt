@@ -4,3 +4,4 @@ pub mod Weighs
 pub mod Turned
 pub mod Passed
 pub mod Rounds
+pub mod Marked
