@@ -9,9 +9,10 @@ use lib.Seq.{take-all, take-at, take-suc, length-take-le, drop-drop, drop-append
 use Rattle.records.specs.Bytes.{little}
 use Rattle.listing.specs.Written.{in-a-row}
 use Rattle.listing.proofs.Rows.{row-append, row-one}
-use Rattle.figures.specs.Figures.{in-order}
+use Rattle.summary.specs.declared.Summary.{Summary}
+use Rattle.figures.specs.Figures.{figures, in-order}
 
-order-length : (xs : List ℕ) → length (in-order xs) ≡ 8 * length xs
+pub order-length : (xs : List ℕ) → length (in-order xs) ≡ 8 * length xs
 unfolding in-a-row
 order-length [] = refl
 order-length (x ∷ xs) = omega (arith, length-append (little 8 x) (in-order xs), order-length xs)
@@ -97,3 +98,8 @@ filled-end xs old n k out used h size e =
 
     place : used ≡ 8 * n
     place = omega (arith, h .used-is)
+
+-- 22 numbers are 176 bytes
+pub figures-length : (s : Summary) → length (in-order (figures s)) ≡ 176
+unfolding figures
+figures-length s = order-length (figures s)
