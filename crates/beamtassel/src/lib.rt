@@ -67,8 +67,8 @@ pub extern "C" fn beamtassel_finalizing(journal: &[u8], out: &mut [u8]) -> u64
 {
     let replay = feeding::replayed(journal);
     let stop = replay.stop;
-    if let Stop::Refused(number) = stop {
-        return refusal(number);
+    if let Stop::Refused(own) = stop {
+        return refusal(own);
     }
     let told = replay.journal;
     let turn = told.turn;

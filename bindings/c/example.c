@@ -1,0 +1,96 @@
+/* Replays a journal from standard input: its lines, then the same from the numbers, the finalizing precommits, and the journal beside
+ * itself. `example < JOURNAL` */
+#include <inttypes.h>
+#include <stdio.h>
+#include <stdlib.h>
+
+#include "beamtassel.h"
+
+/* A report is 22 numbers without gaps. */
+typedef char report_size[sizeof(struct beamtassel_report) == BEAMTASSEL_REPORT_BYTES ? 1 : -1];
+
+static uint8_t *read_all(size_t *length)
+{
+    size_t room = 4096;
+    uint8_t *bytes = malloc(room);
+    *length = 0;
+    while (bytes != NULL) {
+        *length += fread(bytes + *length, 1, room - *length, stdin);
+        if (*length < room)
+            return bytes;
+        uint8_t *more = realloc(bytes, 2 * room);
+        if (more == NULL)
+            free(bytes);
+        bytes = more;
+        room *= 2;
+    }
+    return NULL;
+}
+
+static void print_block(const char *name, const struct beamtassel_block *block)
+{
+    if (block->known)
+        printf("%s %" PRIu64 " %" PRIu64 "\n", name, block->id, block->number);
+    else
+        printf("%s none\n", name);
+}
+
+static void print_report(const struct beamtassel_report *report)
+{
+    switch (report->outcome) {
+    case BEAMTASSEL_JOURNAL_REFUSED:
+        printf("refused %" PRIu64 " at %" PRIu64 "\n", report->refusal, report->refused_record);
+        return;
+    case BEAMTASSEL_NO_ROUND:
+        printf("no round\ntail %" PRIu64 "\n", report->tail);
+        return;
+    }
+    printf("round %" PRIu64 "\n", report->round);
+    printf("prevote %" PRIu64 " of %" PRIu64 " need %" PRIu64 " voters %" PRIu64 "\n", report->prevote_weight, report->total,
+           report->threshold, report->prevoters);
+    printf("precommit %" PRIu64 " of %" PRIu64 " need %" PRIu64 " voters %" PRIu64 "\n", report->precommit_weight, report->total,
+           report->threshold, report->precommitters);
+    print_block("ghost", &report->ghost);
+    print_block("estimate", &report->estimate);
+    print_block("final", &report->final);
+    printf("completable %s\ntail %" PRIu64 "\n", report->completable ? "yes" : "no", report->tail);
+}
+
+int main(void)
+{
+    size_t length;
+    uint8_t *journal = read_all(&length);
+    if (journal == NULL)
+        return 1;
+
+    uint8_t lines[BEAMTASSEL_LINES_BYTES];
+    uint64_t size = beamtassel_print(journal, length, lines, sizeof lines);
+    if (size < BEAMTASSEL_REFUSED)
+        fwrite(lines, 1, (size_t)size, stdout);
+
+    struct beamtassel_report report;
+    if (beamtassel_replay(journal, length, (uint8_t *)&report, sizeof report) == sizeof report)
+        print_report(&report);
+
+    uint8_t precommits[BEAMTASSEL_FINALIZING_BYTES];
+    size = beamtassel_finalizing(journal, length, precommits, sizeof precommits);
+    if (size < BEAMTASSEL_REFUSED)
+        printf("finalizing precommits %" PRIu64 "\n", size / 22);
+    else
+        printf("finalizing refused %" PRIu64 "\n", size - BEAMTASSEL_REFUSED);
+
+    uint8_t weight[BEAMTASSEL_WEIGHT_BYTES];
+    size = beamtassel_two_views(journal, length, journal, length, weight, sizeof weight);
+    if (size < BEAMTASSEL_REFUSED)
+        printf("differing from itself %d\n", weight[0]);
+    else
+        printf("two views refused %" PRIu64 "\n", size - BEAMTASSEL_REFUSED);
+
+    /* A buffer that is a byte short is refused and left as it was. */
+    uint8_t few[BEAMTASSEL_REPORT_BYTES - 1] = {0};
+    size = beamtassel_replay(journal, length, few, sizeof few);
+    printf("a byte short %" PRIu64 "\n", size - BEAMTASSEL_REFUSED);
+
+    free(journal);
+    return 0;
+}
