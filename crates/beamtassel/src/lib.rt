@@ -2,13 +2,10 @@
 // A call returns how many bytes it wrote from the start of `out`, or 4294967296 and the number of its refusal; then `out` is as it was.
 ghost use mathlib.Core.Path.{_≡_};
 ghost use Prim.Native.Nat.{_+_};
-ghost use Rattle.feeding.specs.Feeding.{replayed};
-ghost use Rattle.summary.specs.Summary.{summed};
 ghost use Rattle.beamtassel.specs.Calls.{Call, number-of, has-round, weighed, replay-call, print-call, finalizing-call, two-views-call};
 use feeding::Stop;
 use journal::Turn;
 use listing::Written;
-use summary::Summary;
 use two_views::Views;
 
 fn refusal(number: u8) -> u64
@@ -27,19 +24,12 @@ fn number_of(written: Written) -> u64
     }
 }
 
-// The one place where a journal is replayed for its figures.
-fn summary_of(journal: &[u8]) -> Summary
-    ensures { λ r. ⌜ r ≡ summed (replayed (now (journal .entry))) ⌝ }
-{
-    summary::of(feeding::replayed(journal))
-}
-
 // The report in numbers: 22 of eight bytes each.
 #[no_mangle]
 pub extern "C" fn beamtassel_replay(journal: &[u8], out: &mut [u8]) -> u64
     ensures { λ r. ⌜ _≡_ {A = Call} (record { number = r; out = now (out .exit) }) (replay-call (now (journal .entry)) (now (out .entry))) ⌝ }
 {
-    number_of(figures::write(summary_of(journal), out))
+    number_of(figures::write(summing::replayed(journal), out))
 }
 
 // The report in lines.

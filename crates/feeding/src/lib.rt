@@ -63,7 +63,7 @@ fn rest_of(left: &[u8]) -> Rest
 }
 
 // Records are counted up to 2^64 - 1.
-fn more(records: u64, count: u64) -> u64
+pub fn more(records: u64, count: u64) -> u64
     ensures { λ r. ⌜ r ≡ plus records count ⌝ }
 {
     let seen = weights::VoteWeight::from(records);

@@ -34,7 +34,7 @@ pub struct Summary {
 }
 
 // No round.
-fn bare(outcome: Outcome, records: u64, tail: usize) -> Summary
+pub fn bare(outcome: Outcome, records: u64, tail: usize) -> Summary
     ensures { λ r. ⌜ r ≡ bare outcome records tail ⌝ }
 {
     Summary {

@@ -5,12 +5,12 @@ use Rattle.beamtassel.proofs.beamtassel_replay.Tie as tie
 use Rattle.beamtassel.proofs.beamtassel_replay.Reads as reads
 use Rattle.beamtassel.proofs.beamtassel_replay.Lts as lts
 use Rattle.beamtassel.proofs.number_of.Reads as number-of-reads
-use Rattle.beamtassel.proofs.summary_of.Reads as summary-of-reads
+use Rattle.summing.proofs.replayed.Reads as replayed-reads
 use Rattle.figures.proofs.write.Reads as write-reads
 
 -- src/lib.rt:42:30
-summary-of-requires : tie.Need-summary-of-requires
-summary-of-requires c κs = search needs
+replayed-requires : tie.Need-replayed-requires
+replayed-requires c κs = search needs
 
 -- src/lib.rt:42:15
 write-requires : tie.Need-write-requires
@@ -26,8 +26,8 @@ same-length c = search needs
 
 -- src/lib.rt:38:1
 returns : tie.Need-returns
-returns c = replay-done (c .before .before .before .before .before .before .before .before .args .journal .now) (c .before .before .before .before .before .before .before .before .args .out .now) _ (c .before .before .before .before .before .summary-of .ensures) _ _ _ (c .number-of .ensures) (c .before .before .before .write .ensures)
+returns c = replay-done (c .before .before .before .before .before .before .before .before .args .journal .now) (c .before .before .before .before .before .before .before .before .args .out .now) _ (c .before .before .before .before .before .replayed .ensures) _ _ _ (c .number-of .ensures) (c .before .before .before .write .ensures)
 
 pub beamtassel-replay-spec : {M : Type 1} → statement M
 beamtassel-replay-spec =
-    tie.close (tie.spec summary-of-requires write-requires number-of-requires same-length returns)
+    tie.close (tie.spec replayed-requires write-requires number-of-requires same-length returns)
