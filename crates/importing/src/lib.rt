@@ -151,6 +151,7 @@ pub fn import<'a>(
         parents,
         blocks,
         base,
+        used,
         times,
         places,
         signatures,

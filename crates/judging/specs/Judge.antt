@@ -1,9 +1,9 @@
 -- What is to be done with a vote. Document 01, "How a vote is taken", rules 1 to 5 in order; "Refusal numbers" 11, 12, 13 after
 -- rule 1, of first votes alone.
-use mathlib.Core.Bool.{cond}
+use mathlib.Core.Bool.{Bool, cond}
 use mathlib.Core.List.{List}
 use Prim.Native.Nat.{ℕ}
-use lib.Dec.{eqb}
+use lib.Dec.{T, eqb}
 use Rattle.grandpa.specs.Tree.{below}
 use Rattle.voter_info.specs.declared.VoterInfo.{VoterInfo}
 use Rattle.voter_info.specs.declared.Lookup.{Lookup}
@@ -12,7 +12,7 @@ use Rattle.voter_info.specs.Info.{look-up}
 use Rattle.blocks.specs.Add.{place-of, on-place}
 use Rattle.context.specs.declared.Phase.{Phase}
 use Rattle.context.specs.Votes.{bit}
-use Rattle.nodes.specs.Nodes.{col}
+use Rattle.nodes.specs.Nodes.{col, flag}
 use Rattle.tracker.specs.declared.Votes.{Votes}
 use Rattle.tracker.specs.declared.Pair.{Pair}
 use Rattle.tracker.specs.declared.AddVoteResult.{AddVoteResult}
@@ -24,6 +24,10 @@ use Rattle.judging.specs.declared.Verdict.the-variants.{Nothing, First, 
 
 abbrev pub refused : ℕ → Verdict
 refused n = Nothing (answer.Refused n)
+
+-- where nodes are: at or below the base
+abbrev pub Inside : List ℕ → ℕ → List Bool → Type 0
+Inside parents base used = (x : ℕ) → T (flag used x) → T (below (col parents) base x)
 
 -- a first vote: its target is in the table (11), by its right number (12), at or below the base (13)
 unfoldable pub judge-first : List ℕ → List ℕ → List ℕ → ℕ → ℕ → VoterInfo → Pair → Verdict

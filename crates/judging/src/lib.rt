@@ -2,8 +2,9 @@
 ghost use mathlib.Core.Path.{_≡_};
 ghost use Prim.Native.Nat.{_≤_, _<_};
 ghost use Rattle.context.specs.Votes.{bit};
-ghost use Rattle.nodes.specs.Nodes.{Falls};
-ghost use Rattle.judging.specs.Judge.{judge-first, judge};
+ghost use Rattle.grandpa.specs.Tree.{below};
+ghost use Rattle.nodes.specs.Nodes.{col, Falls};
+ghost use Rattle.judging.specs.Judge.{Inside, judge-first, judge};
 use blocks::Place;
 use climbs::wide;
 use context::Phase;
@@ -38,6 +39,22 @@ pub enum Verdict {
     Second(VoterInfo, Pair),
 }
 
+// Whether a block is the base or under it. Nodes are, so that the climb ends at the first of them.
+fn is_inside<'a>(parents: &'a [u8; 256], used: &'a [bool; 256], base: u8, block: u8) -> bool
+    requires { ⌜ (Falls (now parents)) × Inside (now parents) base (now used) ⌝ }
+    ensures { λ r. ⌜ r ≡ below (col (now (parents .entry))) base block ⌝ }
+{
+    let wanted = wide(base);
+    let mut at = wide(block);
+    while wanted < at {
+        if used[at] {
+            return true;
+        }
+        at = wide(parents[at]);
+    }
+    at == wanted
+}
+
 // A first vote's target: refusals 11, 12 and 13, in that order.
 pub fn judge_first<'a>(
     ids: &'a [u32; 256],
@@ -45,10 +62,11 @@ pub fn judge_first<'a>(
     parents: &'a [u8; 256],
     blocks: usize,
     base: u8,
+    used: &'a [bool; 256],
     info: VoterInfo,
     pair: Pair,
 ) -> Verdict
-    requires { ⌜ (Falls (now parents)) × (blocks ≤ 256) ⌝ }
+    requires { ⌜ (Falls (now parents)) × (blocks ≤ 256) × Inside (now parents) base (now used) ⌝ }
     ensures { λ r. ⌜ r ≡ judge-first (now (ids .entry)) (now (heights .entry)) (now (parents .entry)) blocks base info pair ⌝ }
 {
     let Place::At(block) = blocks::find(ids, blocks, pair.target) else {
@@ -57,7 +75,7 @@ pub fn judge_first<'a>(
     if heights[wide(block)] != pair.number {
         return Verdict::Nothing(ImportResult::Refused(12));
     }
-    if !climbs::reaches(parents, base, block) {
+    if !is_inside(parents, used, base, block) {
         return Verdict::Nothing(ImportResult::Refused(13));
     }
     Verdict::First(info, block)
@@ -84,6 +102,7 @@ pub fn judge<'a>(
     parents: &'a [u8; 256],
     blocks: usize,
     base: u8,
+    used: &'a [bool; 256],
     times: &'a [u8; 128],
     places: &'a [u8; 128],
     signatures: &'a [u64; 128],
@@ -94,7 +113,7 @@ pub fn judge<'a>(
     signer: u32,
     pair: Pair,
 ) -> Verdict
-    requires { ⌜ (Falls (now parents)) × (blocks ≤ 256) × (size ≤ 64) ⌝ }
+    requires { ⌜ (Falls (now parents)) × (blocks ≤ 256) × (size ≤ 64) × Inside (now parents) base (now used) ⌝ }
     ensures { λ r. ⌜ r ≡ judge (now (voters .entry)) (now (weights .entry)) size (now (ids .entry)) (now (heights .entry)) (now (parents .entry)) blocks base (record { times = now (times .entry); places = now (places .entry); signatures = now (signatures .entry); targets = now (targets .entry); numbers = now (numbers .entry); seconds = now (seconds .entry) }) phase signer pair ⌝ }
 {
     let Lookup::Voter(info) = voter_info::look_up(voters, weights, size, signer) else {
@@ -113,7 +132,7 @@ pub fn judge<'a>(
         at,
     );
     match tracker::add_vote(recorded, pair) {
-        AddVoteResult::Single => judge_first(ids, heights, parents, blocks, base, info, pair),
+        AddVoteResult::Single => judge_first(ids, heights, parents, blocks, base, used, info, pair),
         AddVoteResult::Duplicated => Verdict::Nothing(ImportResult::Duplicated),
         AddVoteResult::Equivocated(first) => Verdict::Second(info, first),
         AddVoteResult::Ignored => Verdict::Nothing(ImportResult::Ignored),

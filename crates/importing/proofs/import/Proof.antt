@@ -16,7 +16,7 @@ use Rattle.vote_insert.proofs.insert.Reads as insert-reads
 
 -- src/lib.rt:145:9
 judge-requires : tie.Need-judge-requires
-judge-requires c κs = (c .before .before .before .before .before .before .pre .sound .parents-fall, c .before .before .before .before .before .before .pre .sound .small, c .before .before .before .before .before .before .pre .voters-few)
+judge-requires c κs = (c .before .before .before .before .before .before .before .pre .sound .parents-fall, c .before .before .before .before .before .before .before .pre .sound .small, c .before .before .before .before .before .before .before .pre .voters-few, c .before .before .before .before .before .before .before .pre .sound .nodes .inside)
 
 -- src/lib.rt:169:26
 enum-known-verdict : tie.Need-enum-known-verdict
@@ -28,7 +28,7 @@ enum-known-verdict-2 c = search needs
 
 -- src/lib.rt:171:17
 index-requires : tie.Need-index-requires
-index-requires c κs = first-place _ _ (c .before .before .before .before .before .before .before .before .before .before .before .before .before .pre) _ _ _ _ _ (sym (c .before .before .before .before .before .before .judge .ensures) ∙ c .before .verdict2 .given .1)
+index-requires c κs = first-place _ _ (c .before .before .before .before .before .before .before .before .before .before .before .before .before .before .pre) _ _ _ _ _ (sym (c .before .before .before .before .before .before .judge .ensures) ∙ c .before .verdict2 .given .1)
 
 -- src/lib.rt:173:13
 element-write-times : tie.Need-element-write-times
@@ -56,11 +56,11 @@ cast-entries c = search needs
 
 -- src/lib.rt:176:13
 element-write-entries : tie.Need-element-write-entries
-element-write-entries c = first-room _ _ (c .before .before .before .before .before .before .before .before .before .before .before .before .before .before .before .pre) _ _ _ _ _ (sym (c .before .before .before .before .before .before .before .before .judge .ensures) ∙ c .before .before .before .verdict2 .given .1)
+element-write-entries c = first-room _ _ (c .before .before .before .before .before .before .before .before .before .before .before .before .before .before .before .before .pre) _ _ _ _ _ (sym (c .before .before .before .before .before .before .before .before .judge .ensures) ∙ c .before .before .before .verdict2 .given .1)
 
 -- src/lib.rt:177:17
 insert-requires : tie.Need-insert-requires
-insert-requires c κs = first-insertable _ _ (c .before .before .before .before .before .before .before .before .before .before .before .before .before .before .before .before .before .before .before .before .pre) _ _ _ _ _ (sym (c .before .before .before .before .before .before .before .before .before .before .before .before .before .judge .ensures) ∙ c .before .before .before .before .before .before .before .before .verdict2 .given .1)
+insert-requires c κs = first-insertable _ _ (c .before .before .before .before .before .before .before .before .before .before .before .before .before .before .before .before .before .before .before .before .before .pre) _ _ _ _ _ (sym (c .before .before .before .before .before .before .before .before .before .before .before .before .before .judge .ensures) ∙ c .before .before .before .before .before .before .before .before .verdict2 .given .1)
 
 -- src/lib.rt:193:17
 with-heard-requires : tie.Need-with-heard-requires
@@ -68,11 +68,11 @@ with-heard-requires c κs = search needs
 
 -- src/lib.rt:194:17
 updated-requires : tie.Need-updated-requires
-updated-requires c κs = (first-grounded _ _ (c .before .before .before .before .before .before .before .before .before .before .before .before .before .before .before .before .before .before .before .before .before .before .before .before .before .before .before .pre) _ _ _ _ _ (sym (c .before .before .before .before .before .before .before .before .before .before .before .before .before .before .before .before .before .before .before .before .judge .ensures) ∙ c .before .before .before .before .before .before .before .before .before .before .before .before .before .before .before .verdict2 .given .1) _ _ (c .before .before .before .before .before .before .insert .ensures), c .before .before .before .before .before .before .before .before .before .before .before .before .before .before .before .before .before .before .before .before .before .before .before .before .before .before .before .pre .stored)
+updated-requires c κs = (first-grounded _ _ (c .before .before .before .before .before .before .before .before .before .before .before .before .before .before .before .before .before .before .before .before .before .before .before .before .before .before .before .before .pre) _ _ _ _ _ (sym (c .before .before .before .before .before .before .before .before .before .before .before .before .before .before .before .before .before .before .before .before .judge .ensures) ∙ c .before .before .before .before .before .before .before .before .before .before .before .before .before .before .before .verdict2 .given .1) _ _ (c .before .before .before .before .before .before .insert .ensures), c .before .before .before .before .before .before .before .before .before .before .before .before .before .before .before .before .before .before .before .before .before .before .before .before .before .before .before .before .pre .stored)
 
 -- src/lib.rt:217:28
-add-t62 : tie.Need-add-t62
-add-t62 c = omega (arith, first-room _ _ (c .before .before .before .before .before .before .before .before .before .before .before .before .before .before .before .before .before .before .before .before .before .before .before .before .before .before .before .before .pre) _ _ _ _ _ (sym (c .before .before .before .before .before .before .before .before .before .before .before .before .before .before .before .before .before .before .before .before .before .judge .ensures) ∙ c .before .before .before .before .before .before .before .before .before .before .before .before .before .before .before .before .verdict2 .given .1))
+add-t63 : tie.Need-add-t63
+add-t63 c = omega (arith, first-room _ _ (c .before .before .before .before .before .before .before .before .before .before .before .before .before .before .before .before .before .before .before .before .before .before .before .before .before .before .before .before .before .pre) _ _ _ _ _ (sym (c .before .before .before .before .before .before .before .before .before .before .before .before .before .before .before .before .before .before .before .before .before .judge .ensures) ∙ c .before .before .before .before .before .before .before .before .before .before .before .before .before .before .before .before .verdict2 .given .1))
 
 -- src/lib.rt:224:25
 enum-known-verdict-3 : tie.Need-enum-known-verdict-3
@@ -80,7 +80,7 @@ enum-known-verdict-3 c = search needs
 
 -- src/lib.rt:225:17
 index-requires-2 : tie.Need-index-requires-2
-index-requires-2 c κs = second-place _ _ (c .before .before .before .before .before .before .before .before .before .before .before .before .before .pre) _ _ _ _ _ (sym (c .before .before .before .before .before .before .judge .ensures) ∙ c .before .verdict3 .given .1)
+index-requires-2 c κs = second-place _ _ (c .before .before .before .before .before .before .before .before .before .before .before .before .before .before .pre) _ _ _ _ _ (sym (c .before .before .before .before .before .before .judge .ensures) ∙ c .before .verdict3 .given .1)
 
 -- src/lib.rt:226:13
 element-write-times-2 : tie.Need-element-write-times-2
@@ -124,7 +124,7 @@ cast-entries-2 c = search needs
 
 -- src/lib.rt:230:13
 element-write-entries-2 : tie.Need-element-write-entries-2
-element-write-entries-2 c = second-room _ _ (c .before .before .before .before .before .before .before .before .before .before .before .before .before .before .pre) _ _ _ _ _ (sym (c .before .before .before .before .before .before .before .judge .ensures) ∙ c .before .before .verdict3 .given .1)
+element-write-entries-2 c = second-room _ _ (c .before .before .before .before .before .before .before .before .before .before .before .before .before .before .before .pre) _ _ _ _ _ (sym (c .before .before .before .before .before .before .before .judge .ensures) ∙ c .before .before .verdict3 .given .1)
 
 -- src/lib.rt:233:17
 set-bit-requires : tie.Need-set-bit-requires
@@ -132,11 +132,11 @@ set-bit-requires c κs = search needs
 
 -- src/lib.rt:234:17
 updated-requires-2 : tie.Need-updated-requires-2
-updated-requires-2 c κs = (second-grounded _ _ (c .before .before .before .before .before .before .before .before .before .before .before .before .before .before .before .before .before .before .before .before .pre) _ _ _ _ _ (sym (c .before .before .before .before .before .before .before .before .before .before .before .before .before .judge .ensures) ∙ c .before .before .before .before .before .before .before .before .verdict3 .given .1), c .before .before .before .before .before .before .before .before .before .before .before .before .before .before .before .before .before .before .before .before .pre .stored)
+updated-requires-2 c κs = (second-grounded _ _ (c .before .before .before .before .before .before .before .before .before .before .before .before .before .before .before .before .before .before .before .before .before .pre) _ _ _ _ _ (sym (c .before .before .before .before .before .before .before .before .before .before .before .before .before .judge .ensures) ∙ c .before .before .before .before .before .before .before .before .verdict3 .given .1), c .before .before .before .before .before .before .before .before .before .before .before .before .before .before .before .before .before .before .before .before .before .pre .stored)
 
 -- src/lib.rt:263:28
-add-t82 : tie.Need-add-t82
-add-t82 c = omega (arith, second-room _ _ (c .before .before .before .before .before .before .before .before .before .before .before .before .before .before .before .before .before .before .before .before .before .pre) _ _ _ _ _ (sym (c .before .before .before .before .before .before .before .before .before .before .before .before .before .before .judge .ensures) ∙ c .before .before .before .before .before .before .before .before .before .verdict3 .given .1))
+add-t83 : tie.Need-add-t83
+add-t83 c = omega (arith, second-room _ _ (c .before .before .before .before .before .before .before .before .before .before .before .before .before .before .before .before .before .before .before .before .before .before .pre) _ _ _ _ _ (sym (c .before .before .before .before .before .before .before .before .before .before .before .before .before .before .judge .ensures) ∙ c .before .before .before .before .before .before .before .before .before .verdict3 .given .1))
 
 -- src/lib.rt:113:1
 returns : tie.Need-returns
@@ -145,11 +145,11 @@ returns c = rw (sym (c .before .before .before .before .before .before .judge .e
 
 -- src/lib.rt:113:1
 returns-2 : tie.Need-returns-2
-returns-2 c = first-done _ _ (c .before .before .before .before .before .before .before .before .before .before .before .before .before .before .before .before .before .before .before .before .before .before .before .before .before .before .before .before .pre) _ _ _ _ _ (sym (c .before .before .before .before .before .before .before .before .before .before .before .before .before .before .before .before .before .before .before .before .before .judge .ensures) ∙ c .before .before .before .before .before .before .before .before .before .before .before .before .before .before .before .before .verdict2 .given .1) _ (c .before .before .before .before .before .before .before .before .before .before .before .before .before .before .index .ensures .0) _ (c .before .before .before .before .before .before .before .insert .ensures) _ (c .before .before .before .before .before .before .with-heard .ensures) _ (c .updated .ensures)
+returns-2 c = first-done _ _ (c .before .before .before .before .before .before .before .before .before .before .before .before .before .before .before .before .before .before .before .before .before .before .before .before .before .before .before .before .before .pre) _ _ _ _ _ (sym (c .before .before .before .before .before .before .before .before .before .before .before .before .before .before .before .before .before .before .before .before .before .judge .ensures) ∙ c .before .before .before .before .before .before .before .before .before .before .before .before .before .before .before .before .verdict2 .given .1) _ (c .before .before .before .before .before .before .before .before .before .before .before .before .before .before .index .ensures .0) _ (c .before .before .before .before .before .before .before .insert .ensures) _ (c .before .before .before .before .before .before .with-heard .ensures) _ (c .updated .ensures)
 
 -- src/lib.rt:113:1
 returns-3 : tie.Need-returns-3
-returns-3 c = second-done _ _ (c .before .before .before .before .before .before .before .before .before .before .before .before .before .before .before .before .before .before .before .before .before .pre) _ _ _ _ _ (sym (c .before .before .before .before .before .before .before .before .before .before .before .before .before .before .judge .ensures) ∙ c .before .before .before .before .before .before .before .before .before .verdict3 .given .1) _ (c .before .before .before .before .before .before .before .index2 .ensures .0) _ (c .before .before .before .before .before .before .set-bit .ensures) _ (c .updated2 .ensures)
+returns-3 c = second-done _ _ (c .before .before .before .before .before .before .before .before .before .before .before .before .before .before .before .before .before .before .before .before .before .before .pre) _ _ _ _ _ (sym (c .before .before .before .before .before .before .before .before .before .before .before .before .before .before .judge .ensures) ∙ c .before .before .before .before .before .before .before .before .before .verdict3 .given .1) _ (c .before .before .before .before .before .before .before .index2 .ensures .0) _ (c .before .before .before .before .before .before .set-bit .ensures) _ (c .updated2 .ensures)
 
 pub import-spec : {M : Type 1} → statement M
 import-spec =
@@ -169,7 +169,7 @@ import-spec =
     insert-requires
     with-heard-requires
     updated-requires
-    add-t62
+    add-t63
     enum-known-verdict-3
     index-requires-2
     element-write-times-2
@@ -185,7 +185,7 @@ import-spec =
     element-write-entries-2
     set-bit-requires
     updated-requires-2
-    add-t82
+    add-t83
     returns
     returns-2
     returns-3)

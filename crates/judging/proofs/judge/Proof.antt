@@ -48,7 +48,7 @@ enum-told-2 c = search needs
 
 -- src/lib.rt:106:34
 judge-first-requires : tie.Need-judge-first-requires
-judge-first-requires c κs = (c .before .before .before .before .before .before .before .before .before .before .before .pre .0, c .before .before .before .before .before .before .before .before .before .before .before .pre .1)
+judge-first-requires c κs = (c .before .before .before .before .before .before .before .before .before .before .before .pre .0, c .before .before .before .before .before .before .before .before .before .before .before .pre .1, c .before .before .before .before .before .before .before .before .before .before .before .pre .3)
 
 -- src/lib.rt:107:55
 enum-told-3 : tie.Need-enum-told-3

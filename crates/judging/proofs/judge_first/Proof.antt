@@ -7,7 +7,7 @@ use Rattle.judging.proofs.judge_first.Tie as tie
 use Rattle.judging.proofs.judge_first.Reads as reads
 use Rattle.judging.proofs.judge_first.Lts as lts
 use Rattle.blocks.proofs.find.Reads as find-reads
-use Rattle.climbs.proofs.reaches.Reads as reaches-reads
+use Rattle.judging.proofs.is_inside.Reads as is-inside-reads
 use Rattle.climbs.proofs.wide.Reads as wide-reads
 
 -- src/lib.rt:51:28
@@ -45,18 +45,18 @@ unfolding judge-first
 returns-2 c = rw (sym (c .before .before .before .before .before .before .before .find .ensures) ∙ c .before .before .before .before .before .block .given .1, sym (c .before .before .before .wide .ensures .0), ne-eqb _ _ (c .if1 .taken))
 
 -- src/lib.rt:57:9
-reaches-requires : tie.Need-reaches-requires
-reaches-requires c κs = c .before .before .before .before .before .before .before .before .pre .0
+is-inside-requires : tie.Need-is-inside-requires
+is-inside-requires c κs = (c .before .before .before .before .before .before .before .before .pre .0, c .before .before .before .before .before .before .before .before .pre .2)
 
 -- src/lib.rt:58:9
 returns-3 : tie.Need-returns-3
 unfolding judge-first
-returns-3 c = rw (sym (c .before .before .before .before .before .before .before .before .before .find .ensures) ∙ c .before .before .before .before .before .before .before .block .given .1, sym (c .before .reaches .ensures) ∙ not-true _ (c .if2 .taken), sym (c .before .before .before .before .before .wide .ensures .0), eq-eqb _ _ (c .before .before .if1 .left))
+returns-3 c = rw (sym (c .before .before .before .before .before .before .before .before .before .find .ensures) ∙ c .before .before .before .before .before .before .before .block .given .1, sym (c .before .is-inside .ensures) ∙ not-true _ (c .if2 .taken), sym (c .before .before .before .before .before .wide .ensures .0), eq-eqb _ _ (c .before .before .if1 .left))
 
 -- src/lib.rt:42:1
 returns-4 : tie.Need-returns-4
 unfolding judge-first
-returns-4 c = rw (sym (c .before .before .before .before .before .before .before .before .before .find .ensures) ∙ c .before .before .before .before .before .before .before .block .given .1, sym (c .before .reaches .ensures) ∙ not-false _ (c .if2 .left), sym (c .before .before .before .before .before .wide .ensures .0), eq-eqb _ _ (c .before .before .if1 .left))
+returns-4 c = rw (sym (c .before .before .before .before .before .before .before .before .before .find .ensures) ∙ c .before .before .before .before .before .before .before .block .given .1, sym (c .before .is-inside .ensures) ∙ not-false _ (c .if2 .left), sym (c .before .before .before .before .before .wide .ensures .0), eq-eqb _ _ (c .before .before .if1 .left))
 
 pub judge-first-spec : {M : Type 1} → statement M
 judge-first-spec =
@@ -70,6 +70,6 @@ judge-first-spec =
     mul-if1
     element-copy-out-if1
     returns-2
-    reaches-requires
+    is-inside-requires
     returns-3
     returns-4)
