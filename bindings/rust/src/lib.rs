@@ -31,7 +31,8 @@ mod raw {
     extern "C" {
         pub fn beamtassel_replay(journal: *const u8, journal_length: usize, out: *mut u8, out_length: usize) -> u64;
         pub fn beamtassel_print(journal: *const u8, journal_length: usize, out: *mut u8, out_length: usize) -> u64;
-        pub fn beamtassel_finalizing(journal: *const u8, journal_length: usize, out: *mut u8, out_length: usize) -> u64;
+        pub fn beamtassel_finalizing(journal: *const u8, journal_length: usize, out: *mut u8, out_length: usize)
+            -> u64;
         pub fn beamtassel_two_views(
             first: *const u8,
             first_length: usize,
@@ -207,7 +208,14 @@ pub fn finalizing_into(journal: &[u8], out: &mut [u8]) -> Result<usize, Refusal>
 pub fn two_views_into(first: &[u8], second: &[u8], out: &mut [u8]) -> Result<usize, Refusal> {
     // SAFETY: as in `replay_into`; the journals are only read, and may be one.
     answer(unsafe {
-        raw::beamtassel_two_views(first.as_ptr(), first.len(), second.as_ptr(), second.len(), out.as_mut_ptr(), out.len())
+        raw::beamtassel_two_views(
+            first.as_ptr(),
+            first.len(),
+            second.as_ptr(),
+            second.len(),
+            out.as_mut_ptr(),
+            out.len(),
+        )
     })
 }
 

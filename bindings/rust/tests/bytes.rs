@@ -1,6 +1,8 @@
 //! Journals cut at every byte and damaged in every byte, and buffers of every length.
 mod common;
-use beamtassel::{finalizing, finalizing_into, lines, lines_into, replay, replay_into, two_views, two_views_into, Refusal, Report};
+use beamtassel::{
+    finalizing, finalizing_into, lines, lines_into, replay, replay_into, two_views, two_views_into, Refusal, Report,
+};
 use common::*;
 
 #[test]
@@ -102,7 +104,9 @@ fn the_longest_lists() {
     let last = u32::MAX - 64;
     let weight = u64::MAX / 64;
     let mut journal: Vec<u8> = (0..64).flat_map(|k| voter(last + k, weight)).collect();
-    journal.extend([root(u32::MAX - 1, u32::MAX - 1), block(u32::MAX, u32::MAX - 1), open(u64::MAX, u32::MAX - 1)].concat());
+    journal.extend(
+        [root(u32::MAX - 1, u32::MAX - 1), block(u32::MAX, u32::MAX - 1), open(u64::MAX, u32::MAX - 1)].concat(),
+    );
     for vote in [prevote, precommit] {
         journal.extend((0..64).flat_map(|k| vote(last + k, u32::MAX, u32::MAX)));
         journal.extend((0..64).flat_map(|k| vote(last + k, u32::MAX - 1, u32::MAX - 1)));

@@ -64,7 +64,9 @@ fn other_precommits() {
 
 #[test]
 fn thresholds_and_the_greatest_total() {
-    for (total, threshold) in [(1, 1), (2, 2), (3, 3), (4, 3), (5, 4), (6, 5), (7, 5), (10, 7), (u64::MAX, 12297829382473034411)] {
+    for (total, threshold) in
+        [(1, 1), (2, 2), (3, 3), (4, 3), (5, 4), (6, 5), (7, 5), (10, 7), (u64::MAX, 12297829382473034411)]
+    {
         let told = round(&[voter(1, total), root(10, 0), open(1, 10)].concat());
         assert_eq!((told.total, told.threshold), (total, threshold));
     }
@@ -85,7 +87,9 @@ fn sixty_four_voters_and_256_blocks() {
 #[test]
 fn two_views_of_it() {
     let journal = case_j();
-    let other = [opened(7), prevotes(), precommit(1, 12, 2), precommit(2, 13, 2), precommit(3, 13, 2), precommit(4, 11, 1)].concat();
+    let other =
+        [opened(7), prevotes(), precommit(1, 12, 2), precommit(2, 13, 2), precommit(3, 13, 2), precommit(4, 11, 1)]
+            .concat();
     // Voters 2 and 3 differ; 4 is silent in the first.
     assert_eq!(two_views(&journal, &other), Ok(2));
     assert_eq!(two_views(&other, &journal), Ok(2));
@@ -117,7 +121,9 @@ fn a_refused_journal_tells_its_own_number() {
     let late = [journal.clone(), voter(9, 1)].concat();
     let nine = |refused: &[u8], number: u8, at: u64| {
         assert_eq!(lines(refused), format!("refused {number} at {at}\n"));
-        assert!(matches!(replay(refused), Report::Refused { refusal, record } if refusal.number() == number && record == at));
+        assert!(
+            matches!(replay(refused), Report::Refused { refusal, record } if refusal.number() == number && record == at)
+        );
         assert_eq!(finalizing(refused).map_err(Refusal::number), Err(number));
         assert_eq!(two_views(refused, &journal).map_err(Refusal::number), Err(number));
         assert_eq!(two_views(&journal, refused).map_err(Refusal::number), Err(number));

@@ -72,7 +72,7 @@ fn finalizing_precommits() {
 }
 
 // Document 01, "Two views", from a journal's bytes: each voter's first precommit.
-fn first_precommits<'a>(records: &[&'a [u8]]) -> HashMap<u32, u32> {
+fn first_precommits(records: &[&[u8]]) -> HashMap<u32, u32> {
     let mut firsts = HashMap::new();
     for record in records.iter().filter(|record| record.starts_with(b"Pc")) {
         firsts.entry(word(record, 2)).or_insert(word(record, 6));
@@ -88,7 +88,8 @@ fn two_views_of_votes_in_another_order() {
         let (all, _) = records(&journal);
         let is_vote = |record: &&[u8]| record.starts_with(b"Pv") || record.starts_with(b"Pc");
         let blocks_first: Vec<&[u8]> = all.iter().copied().filter(|record| !is_vote(record)).collect();
-        let backwards: Vec<&[u8]> = blocks_first.iter().copied().chain(all.iter().rev().copied().filter(is_vote)).collect();
+        let backwards: Vec<&[u8]> =
+            blocks_first.iter().copied().chain(all.iter().rev().copied().filter(is_vote)).collect();
         let other = backwards.concat();
         match replay(&other) {
             Report::Refused { refusal, .. } => assert_eq!(two_views(&journal, &other), Err(refusal)),
@@ -96,7 +97,8 @@ fn two_views_of_votes_in_another_order() {
             Report::Round(_) => {
                 let mut weights: HashMap<u32, u64> = HashMap::new();
                 for record in all.iter().filter(|record| record.starts_with(b"Vt")) {
-                    *weights.entry(word(record, 2)).or_default() += u64::from_le_bytes(record[6..14].try_into().unwrap());
+                    *weights.entry(word(record, 2)).or_default() +=
+                        u64::from_le_bytes(record[6..14].try_into().unwrap());
                 }
                 let (one, two) = (first_precommits(&all), first_precommits(&backwards));
                 let sum: u64 = one

@@ -102,7 +102,10 @@ pub fn as_lines(report: &Report) -> String {
         Report::Round(r) => [
             format!("round {}\n", r.number),
             format!("prevote {} of {} need {} voters {}\n", r.prevote_weight, r.total, r.threshold, r.prevoters),
-            format!("precommit {} of {} need {} voters {}\n", r.precommit_weight, r.total, r.threshold, r.precommitters),
+            format!(
+                "precommit {} of {} need {} voters {}\n",
+                r.precommit_weight, r.total, r.threshold, r.precommitters
+            ),
             block_line("ghost", r.ghost),
             block_line("estimate", r.estimate),
             block_line("final", r.finalized),

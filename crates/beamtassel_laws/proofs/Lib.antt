@@ -1,0 +1,5 @@
+pub mod Sizes
+pub mod Numbers
+pub mod Results
+pub mod Places
+pub mod Examples

@@ -1,0 +1,1 @@
+// No code: what the calls that consoles link can answer.
