@@ -9,6 +9,7 @@ use Rattle.grandpa.specs.Possible.{asked}
 use Rattle.context.specs.declared.Phase.{Phase}
 use Rattle.context.specs.declared.Phase.the-variants.{Prevote, Precommit}
 use Rattle.context.specs.Votes.{voted, weightOf}
+use Rattle.graph.specs.Graph.{tally}
 use Rattle.graph.specs.Ghost.{find-ancestor, find-ghost}
 use Rattle.nodes.specs.declared.Found.{Found}
 use Rattle.nodes.specs.declared.Found.the-variants.{At, Nothing}
@@ -110,6 +111,11 @@ told-after s total heard phase a = update s total heard (with-ghost s heard phas
 abbrev pub In-base : List ℕ → ℕ → Found → Type 0
 In-base parents base Nothing = Unit {0}
 In-base parents base (At b) = T (below (col parents) base b)
+
+-- a block told answers a question with yes
+abbrev pub Passing : List ℕ → List ℕ → Columns → Question → Found → Type 0
+Passing parents weights graph q Nothing = Unit {0}
+Passing parents weights graph q (At b) = T (passes weights q (tally (col parents) (view graph) b))
 
 -- columns that keep the shape rules of a vote graph, on some table
 pub record Grounded (parents : List ℕ) (base : ℕ) (graph : Columns) : Type 0 where
