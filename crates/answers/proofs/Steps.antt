@@ -2,7 +2,7 @@
 use mathlib.Core.Bool.{Bool, true, false, not, _&&_}
 use mathlib.Core.List.{List}
 use mathlib.Core.Option.{Option, none, some}
-use mathlib.Core.Path.{_≡_, sym, ap, subst, _∙_}
+use mathlib.Core.Path.{_≡_, refl, sym, ap, subst, _∙_}
 use mathlib.Core.Logic.{_≢_}
 use Prim.Native.Nat.{ℕ, _≤_, _<_}
 use lib.Dec.{T, eqb}
@@ -32,7 +32,7 @@ use Rattle.vote_search.proofs.Ancestors.{ancestor-unlisted}
 use Rattle.vote_search.proofs.Descents as search
 use Rattle.answers.specs.declared.Answers.{Answers}
 use Rattle.answers.specs.declared.Heard.{Heard}
-use Rattle.answers.specs.Update.{Scene, Grounded, In-base, Passing, start-of, ghost-from, ancestor-from, weighty, phase-ghost, with-prevote, with-ghost, settled, waiting, reached, update}
+use Rattle.answers.specs.Update.{Scene, Grounded, In-base, start-of, ghost-from, ancestor-from, weighty, phase-ghost, with-prevote, with-ghost, settled, untested, waiting, reached, update}
 
 -- a search starts at or below the base
 pub start-in : (parents : List ℕ) (base : ℕ) (graph : Columns) → Grounded parents base graph → (o : Found) → In-base parents base o
@@ -73,24 +73,27 @@ module _ (s : Scene) (phase : Phase) (heard : ℕ) (stored : Found) where
   unfolding phase-ghost
   phase-goes h b e r q = rw (le-leb (s .threshold) heard h, ← e) q
 
--- what is settled
-module _ (parents weights : List ℕ) (graph : Columns) (q : Question) (g : ℕ) where
-  pub settled-none : (o : Found) → o ≡ Nothing → false ≡ settled parents weights graph q g o
-  settled-none o e = rw e
+-- what is settled, of an estimate that passes
+module _ (parents weights : List ℕ) (q : Question) (g : ℕ) where
+  pub untested-none : (graph : Graph) (o : Found) → o ≡ Nothing → false ≡ untested parents weights graph q g o
+  untested-none graph o e = rw e
 
-  pub settled-other : (o : Found) (e : ℕ) → o ≡ At e → e ≢ g → true ≡ settled parents weights graph q g o
-  settled-other o e p d = rw (p, ne-eqb e g d)
+  pub untested-other : (graph : Graph) (o : Found) (e : ℕ) → o ≡ At e → e ≢ g → true ≡ untested parents weights graph q g o
+  untested-other graph o e p d = rw (p, ne-eqb e g d)
 
-  pub settled-end : (base : ℕ) → Grounded parents base graph → (o : Found) (e : ℕ) → o ≡ At e → e ≡ g → Passing parents weights graph q o → (r : ℕ)
-      → r ≡ descend (col parents) (unheaded (graph .used) (graph .rows) (graph .order) (graph .listed)) (passes weights q) e
-      → eqb r g ≡ settled parents weights graph q g o
-  settled-end base ground o e p d t r k =
-      rw (
-        p,
-        eq-eqb e g d,
-        search.ghost-from parents (ground .ids) base (ground .count) graph (ground .sound) (passes weights q) e
-            (true-T _ (subst (Passing parents weights graph q) p t)) r k,
-      )
+  pub untested-end : (graph : Graph) (o : Found) (e : ℕ) → o ≡ At e → e ≡ g → (r : ℕ) → r ≡ descend (col parents) graph (passes weights q) e
+      → eqb r g ≡ untested parents weights graph q g o
+  untested-end graph o e p d r k = rw (p, eq-eqb e g d, k)
+
+  abbrev Passing : Columns → Found → Type 0
+  Passing graph Nothing = Unit {0}
+  Passing graph (At b) = T (passes weights q (tally (col parents) (view graph) b))
+
+  settled-untested : (base : ℕ) (graph : Columns) → Grounded parents base graph → (o : Found) → Passing graph o
+      → untested parents weights (unheaded (graph .used) (graph .rows) (graph .order) (graph .listed)) q g o ≡ settled parents weights graph q g o
+  settled-untested base graph ground Nothing t = refl
+  settled-untested base graph ground (At e) t =
+      rw (search.ghost-from parents (ground .ids) base (ground .count) graph (ground .sound) (passes weights q) e (true-T _ t) _ refl)
 
 -- the two searches towards the base as the code makes them, which are not lent the listing
 module _ (s : Scene) (ground : Grounded (s .parents) (s .base) (s .graph)) (p : PossibleToPrecommit) (g : ℕ) (r : Both) where
@@ -113,12 +116,21 @@ module _ (s : Scene) (ground : Grounded (s .parents) (s .base) (s .graph)) (p : 
   possible-sought e = ancestor-seen _ _ (ap (λ (x : Both). x .possible) e)
 
   -- what is possible lies at or below the base, and passes
-  pub possible-told : T (below (col (s .parents)) (s .base) g) → Sought
-      → (In-base (s .parents) (s .base) (r .possible)) × Passing (s .parents) (s .weights) (s .graph) (of-precommits (s .equivocations) (Possible p)) (r .possible)
-  possible-told h e =
-      rw (possible-sought e)
-      (ancestor-first (s .parents) (ground .sound .parents-fall) (view (s .graph)) (s .base) (passes (s .weights) (of-precommits (s .equivocations) (Possible p))) g h
-      (λ (o : Found). (In-base (s .parents) (s .base) o) × Passing (s .parents) (s .weights) (s .graph) (of-precommits (s .equivocations) (Possible p)) o) (tt, tt) (λ x f. (f .inside, f .passes)))
+  module _ (h : T (below (col (s .parents)) (s .base) g)) (e : Sought) where
+    possible-told : (P : Found → Type 0) → P Nothing
+        → ((x : ℕ) → First (col (s .parents)) (λ b. passes (s .weights) (of-precommits (s .equivocations) (Possible p)) (tally (col (s .parents)) (view (s .graph)) b)) (s .base) g x → P (At x))
+        → P (r .possible)
+    possible-told P n f = rw (possible-sought e) (ancestor-first (s .parents) (ground .sound .parents-fall) (view (s .graph)) (s .base) _ g h P n f)
+
+    pub possible-in : In-base (s .parents) (s .base) (r .possible)
+    possible-in = possible-told (In-base (s .parents) (s .base)) tt (λ x f. f .inside)
+
+    possible-settled : (z : Bool)
+        → z ≡ untested (s .parents) (s .weights) (unheaded (s .graph .used) (s .graph .rows) (s .graph .order) (s .graph .listed)) (of-precommits (s .equivocations) (Possible p)) g (r .possible)
+        → z ≡ settled (s .parents) (s .weights) (s .graph) (of-precommits (s .equivocations) (Possible p)) g (r .possible)
+    possible-settled z q =
+        q ∙ settled-untested (s .parents) (s .weights) (of-precommits (s .equivocations) (Possible p)) g (s .base) (s .graph) ground (r .possible)
+        (possible-told (Passing (s .parents) (s .weights) (of-precommits (s .equivocations) (Possible p)) g (s .graph)) tt (λ x f. f .passes))
 
 -- the prevote-GHOST in an import
 module _ (s : Scene) (heard : Heard) (phase : Phase) (a : Answers) where
@@ -152,14 +164,15 @@ module _ (s : Scene) (total : ℕ) (heard : Heard) (a : Answers) where
       pub update-waiting : heard .precommit < s .threshold → waiting (with-prevote a (At g)) g ≡ update s total heard a
       update-waiting k = ap (λ (o : Found). waiting (with-prevote a o) g) (sym e) ∙ update-waits k
 
-      pub update-reached : (ground : Grounded (s .parents) (s .base) (s .graph)) → s .threshold ≤ heard .precommit
+      pub update-reached : (ground : Grounded (s .parents) (s .base) (s .graph)) → T (below (col (s .parents)) (s .base) g)
+          → s .threshold ≤ heard .precommit
           → (w : ℕ) (p : PossibleToPrecommit) → w ≡ weightOf (s .weights) (voted (s .equivocations) Precommit)
           → p ≡ asked total (s .threshold) (heard .precommit) w → (r : Both) → Sought s ground p g r → (z : Bool)
-          → z ≡ settled (s .parents) (s .weights) (s .graph) (of-precommits (s .equivocations) (Possible p)) g (r .possible)
+          → z ≡ untested (s .parents) (s .weights) (unheaded (s .graph .used) (s .graph .rows) (s .graph .order) (s .graph .listed)) (of-precommits (s .equivocations) (Possible p)) g (r .possible)
           → record { prevote = At g; precommit = a .precommit; finalized = r .weighty; estimate = r .possible; completable = z } ≡ update s total heard a
-      update-reached ground k w p u v r e′ z pz =
+      update-reached ground i k w p u v r q z pz =
           ap (λ (o : Found). made o (r .weighty) (r .possible) z) (sym e)
-          ∙ rw (pz, possible-sought s ground p g r e′, weighty-sought s ground p g r e′, v, u) (update-goes k)
+          ∙ rw (possible-settled s ground p g r i q z pz, possible-sought s ground p g r q, weighty-sought s ground p g r q, v, u) (update-goes k)
         where
           made : Found → Found → Found → Bool → Answers
           made o f x z = record { prevote = o; precommit = a .precommit; finalized = f; estimate = x; completable = z }

@@ -9,8 +9,8 @@ use Rattle.grandpa.specs.Possible.{asked}
 use Rattle.context.specs.declared.Phase.{Phase}
 use Rattle.context.specs.declared.Phase.the-variants.{Prevote, Precommit}
 use Rattle.context.specs.Votes.{voted, weightOf}
-use Rattle.graph.specs.Graph.{tally}
-use Rattle.graph.specs.Ghost.{find-ancestor, find-ghost}
+use Rattle.graph.specs.Graph.{Graph}
+use Rattle.graph.specs.Ghost.{find-ancestor, descend, find-ghost}
 use Rattle.nodes.specs.declared.Found.{Found}
 use Rattle.nodes.specs.declared.Found.the-variants.{At, Nothing}
 use Rattle.nodes.specs.declared.Condition.the-variants.{AtLeast, Possible}
@@ -78,6 +78,11 @@ abbrev pub settled : List ℕ → List ℕ → Columns → Question → ℕ → 
 settled parents weights graph q g (At e) = not (eqb e g) || ends-at g (ghost-from parents weights graph q e)
 settled parents weights graph q g Nothing = false
 
+-- the same of an estimate that passes: the search is not asked whether its start does. `settled-untested` says so.
+abbrev pub untested : List ℕ → List ℕ → Graph → Question → ℕ → Found → Bool
+untested parents weights graph q g (At e) = not (eqb e g) || eqb (descend (col parents) graph (passes weights q) e) g
+untested parents weights graph q g Nothing = false
+
 -- heard precommit weight below T: the estimate is g
 abbrev pub waiting : Answers → ℕ → Answers
 waiting a g =
@@ -111,11 +116,6 @@ told-after s total heard phase a = update s total heard (with-ghost s heard phas
 abbrev pub In-base : List ℕ → ℕ → Found → Type 0
 In-base parents base Nothing = Unit {0}
 In-base parents base (At b) = T (below (col parents) base b)
-
--- a block told answers a question with yes
-abbrev pub Passing : List ℕ → List ℕ → Columns → Question → Found → Type 0
-Passing parents weights graph q Nothing = Unit {0}
-Passing parents weights graph q (At b) = T (passes weights q (tally (col parents) (view graph) b))
 
 -- columns that keep the shape rules of a vote graph, on some table
 pub record Grounded (parents : List ℕ) (base : ℕ) (graph : Columns) : Type 0 where

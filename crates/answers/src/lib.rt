@@ -1,7 +1,9 @@
 // The answers of a round: `update` of round.rs and its two GHOSTs, on lent columns.
 ghost use mathlib.Core.Path.{_≡_};
+ghost use mathlib.Core.List.{List};
 ghost use Prim.Native.Nat.{ℕ};
-ghost use Rattle.answers.specs.Update.{lent, scene, Grounded, In-base, Passing, start-of, phase-ghost, with-ghost, settled, update};
+ghost use Rattle.answers.specs.Update.{lent, scene, Grounded, In-base, start-of, phase-ghost, with-ghost, untested, update};
+ghost use Rattle.vote_search.specs.Searches.{unheaded};
 use context::Phase;
 use grandpa::PossibleToPrecommit;
 use nodes::Condition;
@@ -143,15 +145,13 @@ fn is_completable<'a>(
     rows: &'a [[u64; 2]; 256],
     order: &'a [u8; 256],
     listed: usize,
-    heads: &'a [u8; 256],
-    tips: usize,
     weights: &'a [u64; 64],
     possible: Question,
     g: u8,
     estimate: Found,
 ) -> bool
-    requires { ⌜ ((base : ℕ) × (Grounded (now parents) base (lent (now used) (now above) (now rows) (now order) listed (now heads) tips)) × (In-base (now parents) base estimate) × Passing (now parents) (now weights) (lent (now used) (now above) (now rows) (now order) listed (now heads) tips) possible estimate) ⌝ }
-    ensures { λ r. ⌜ r ≡ settled (now (parents .entry)) (now (weights .entry)) (lent (now (used .entry)) (now (above .entry)) (now (rows .entry)) (now (order .entry)) listed (now (heads .entry)) tips) possible g estimate ⌝ }
+    requires { ⌜ ((heads : List ℕ) × (tips : ℕ) × (base : ℕ) × (Grounded (now parents) base (lent (now used) (now above) (now rows) (now order) listed heads tips)) × In-base (now parents) base estimate) ⌝ }
+    ensures { λ r. ⌜ r ≡ untested (now (parents .entry)) (now (weights .entry)) (unheaded (now (used .entry)) (now (rows .entry)) (now (order .entry)) listed) possible g estimate ⌝ }
 {
     let Found::At(block) = estimate else {
         return false;
@@ -241,8 +241,6 @@ pub fn update<'a>(
         rows,
         order,
         listed,
-        heads,
-        tips,
         weights,
         possible,
         g,

@@ -125,9 +125,9 @@ pub fn find_both<'a>(
     ensures { λ r. ⌜ r ≡ both (col (now (parents .entry))) (unlisted (now (used .entry)) (now (rows .entry)) (now (heads .entry)) tips) base (now (weights .entry)) equivocations still block ⌝ }
 {
     let mut possible = Found::Nothing;
-    let mut at = block;
+    let mut here = block;
     loop {
-        let tally = cumulative_vote(parents, used, above, rows, heads, tips, at);
+        let tally = cumulative_vote(parents, used, above, rows, heads, tips, here);
         if !tally.inside {
             return Both {
                 weighty: Found::Nothing,
@@ -141,20 +141,20 @@ pub fn find_both<'a>(
             equivocations,
             Phase::Precommit,
         );
-        possible = or_this(possible, still, weight, at);
+        possible = or_this(possible, still, weight, here);
         if still.threshold <= weight {
             return Both {
-                weighty: Found::At(at),
+                weighty: Found::At(here),
                 possible,
             };
         }
-        if at == base {
+        if here == base {
             return Both {
                 weighty: Found::Nothing,
                 possible,
             };
         }
-        at = parents[wide(at)];
+        here = parents[wide(here)];
     }
 }
 

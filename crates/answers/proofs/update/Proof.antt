@@ -1,5 +1,5 @@
 use Rattle.answers.specs.Update.{scene}
-use Rattle.answers.proofs.Steps.{stands, told-in, possible-told, update-early, update-none, update-waiting, update-reached}
+use Rattle.answers.proofs.Steps.{stands, told-in, possible-in, update-early, update-none, update-waiting, update-reached}
 use borrow.Author.Needs.{needs}
 use Rattle.answers.proofs.update.Statement.{statement}
 use Rattle.answers.proofs.update.Tie as tie
@@ -45,13 +45,13 @@ find-both-requires c κs = (_, _, stands _ _ _ (c .before .before .before .befor
 -- src/lib.rt:237:9
 is-completable-requires : tie.Need-is-completable-requires
 is-completable-requires c κs =
-    let told = possible-told (scene _ _ _ (c .before .before .before .before .before .before .before .before .before .before .args .threshold) _ _) (c .before .before .before .before .before .before .before .before .before .before .pre .0) _ _ _ (told-in _ _ _ (c .before .before .before .before .before .before .before .before .before .before .pre .1) _ (c .before .before .before .before .before .before .prevote .given .1)) (c .find-both .ensures) in
-    (_, c .before .before .before .before .before .before .before .before .before .before .pre .0, told .0, told .1)
+    let s = scene _ _ _ (c .before .before .before .before .before .before .before .before .before .before .args .threshold) _ _ in
+    (_, _, _, c .before .before .before .before .before .before .before .before .before .before .pre .0, possible-in s (c .before .before .before .before .before .before .before .before .before .before .pre .0) _ _ _ (told-in _ _ _ (c .before .before .before .before .before .before .before .before .before .before .pre .1) _ (c .before .before .before .before .before .before .prevote .given .1)) (c .find-both .ensures))
 
 -- src/lib.rt:177:1
 returns-4 : tie.Need-returns-4
 returns-4 c =
-    update-reached _ _ _ _ (c .before .before .before .before .before .before .before .before .before .if1 .left) _ (c .before .before .before .before .before .before .before .prevote .given .1) (c .before .before .before .before .before .before .before .before .before .before .before .pre .0) (c .before .before .before .before .if2 .left) _ _ (c .before .before .before .weight .ensures) (c .before .before .new .ensures) _ (c .before .find-both .ensures) _ (c .is-completable .ensures)
+    update-reached _ _ _ _ (c .before .before .before .before .before .before .before .before .before .if1 .left) _ (c .before .before .before .before .before .before .before .prevote .given .1) (c .before .before .before .before .before .before .before .before .before .before .before .pre .0) (told-in _ _ _ (c .before .before .before .before .before .before .before .before .before .before .before .pre .1) _ (c .before .before .before .before .before .before .before .prevote .given .1)) (c .before .before .before .before .if2 .left) _ _ (c .before .before .before .weight .ensures) (c .before .before .new .ensures) _ (c .before .find-both .ensures) _ (c .is-completable .ensures)
 
 pub update-spec : {M : Type 1} → statement M
 update-spec =

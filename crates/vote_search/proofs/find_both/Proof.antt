@@ -17,12 +17,12 @@ use Rattle.vote_search.proofs.cumulative_vote.Reads as cumulative-vote-
 use Rattle.vote_search.proofs.or_this.Reads as or-this-reads
 
 abbrev Inv-loop : tie.InvT-loop
-Inv-loop parents used above rows heads tips weights base equivocations still block possible₀ at₀ possible at =
-    On (col parents) (unlisted used rows heads tips) base weights equivocations still block at possible
+Inv-loop parents used above rows heads tips weights base equivocations still block possible₀ here₀ possible here =
+    On (col parents) (unlisted used rows heads tips) base weights equivocations still block here possible
 
 abbrev μ-loop : tie.MeasureT-loop
-μ-loop parents used above rows heads tips weights base equivocations still block possible₀ at₀ possible at =
-    at
+μ-loop parents used above rows heads tips weights base equivocations still block possible₀ here₀ possible here =
+    here
 
 -- src/lib.rt:129:5
 loop-holds : tie.Need-loop-holds Inv-loop μ-loop
@@ -59,8 +59,8 @@ wide-requires : tie.Need-wide-requires Inv-loop μ-loop
 wide-requires c κs = search needs
 
 -- src/lib.rt:153:14
-element-copy-out-at : tie.Need-element-copy-out-at Inv-loop μ-loop
-element-copy-out-at c = c .wide .ensures .1
+element-copy-out-here : tie.Need-element-copy-out-here Inv-loop μ-loop
+element-copy-out-here c = c .wide .ensures .1
 
 -- src/lib.rt:129:5
 loop-less : tie.Need-loop-less Inv-loop μ-loop
@@ -87,6 +87,6 @@ find-both-spec =
     returns-2
     returns-3
     wide-requires
-    element-copy-out-at
+    element-copy-out-here
     loop-less
     loop-again)
