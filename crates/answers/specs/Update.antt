@@ -9,7 +9,8 @@ use Rattle.grandpa.specs.Possible.{asked}
 use Rattle.context.specs.declared.Phase.{Phase}
 use Rattle.context.specs.declared.Phase.the-variants.{Prevote, Precommit}
 use Rattle.context.specs.Votes.{voted, weightOf}
-use Rattle.graph.specs.Ghost.{find-ancestor, find-ghost}
+use Rattle.graph.specs.Graph.{Graph}
+use Rattle.graph.specs.Ghost.{find-ancestor, descend, find-ghost}
 use Rattle.nodes.specs.declared.Found.{Found}
 use Rattle.nodes.specs.declared.Found.the-variants.{At, Nothing}
 use Rattle.nodes.specs.declared.Condition.the-variants.{AtLeast, Possible}
@@ -76,6 +77,11 @@ ends-at g Nothing = true
 abbrev pub settled : List ℕ → List ℕ → Columns → Question → ℕ → Found → Bool
 settled parents weights graph q g (At e) = not (eqb e g) || ends-at g (ghost-from parents weights graph q e)
 settled parents weights graph q g Nothing = false
+
+-- the same of an estimate that passes: the search is not asked whether its start does. `settled-untested` says so.
+abbrev pub untested : List ℕ → List ℕ → Graph → Question → ℕ → Found → Bool
+untested parents weights graph q g (At e) = not (eqb e g) || eqb (descend (col parents) graph (passes weights q) e) g
+untested parents weights graph q g Nothing = false
 
 -- heard precommit weight below T: the estimate is g
 abbrev pub waiting : Answers → ℕ → Answers

@@ -1,7 +1,9 @@
 // The answers of a round: `update` of round.rs and its two GHOSTs, on lent columns.
 ghost use mathlib.Core.Path.{_≡_};
+ghost use mathlib.Core.List.{List};
 ghost use Prim.Native.Nat.{ℕ};
-ghost use Rattle.answers.specs.Update.{lent, scene, Grounded, In-base, start-of, phase-ghost, with-ghost, settled, update};
+ghost use Rattle.answers.specs.Update.{lent, scene, Grounded, In-base, start-of, phase-ghost, with-ghost, untested, update};
+ghost use Rattle.vote_search.specs.Searches.{unheaded};
 use context::Phase;
 use grandpa::PossibleToPrecommit;
 use nodes::Condition;
@@ -134,7 +136,8 @@ pub fn with_ghost<'a>(
     }
 }
 
-// Whether no block strictly below g can still be finalized.
+// Whether no block strictly below g can still be finalized. The estimate is possible, so that the search down is not asked
+// whether its start is.
 fn is_completable<'a>(
     parents: &'a [u8; 256],
     used: &'a [bool; 256],
@@ -142,15 +145,13 @@ fn is_completable<'a>(
     rows: &'a [[u64; 2]; 256],
     order: &'a [u8; 256],
     listed: usize,
-    heads: &'a [u8; 256],
-    tips: usize,
     weights: &'a [u64; 64],
     possible: Question,
     g: u8,
     estimate: Found,
 ) -> bool
-    requires { ⌜ ((base : ℕ) × (Grounded (now parents) base (lent (now used) (now above) (now rows) (now order) listed (now heads) tips)) × In-base (now parents) base estimate) ⌝ }
-    ensures { λ r. ⌜ r ≡ settled (now (parents .entry)) (now (weights .entry)) (lent (now (used .entry)) (now (above .entry)) (now (rows .entry)) (now (order .entry)) listed (now (heads .entry)) tips) possible g estimate ⌝ }
+    requires { ⌜ ((heads : List ℕ) × (tips : ℕ) × (base : ℕ) × (Grounded (now parents) base (lent (now used) (now above) (now rows) (now order) listed heads tips)) × In-base (now parents) base estimate) ⌝ }
+    ensures { λ r. ⌜ r ≡ untested (now (parents .entry)) (now (weights .entry)) (unheaded (now (used .entry)) (now (rows .entry)) (now (order .entry)) listed) possible g estimate ⌝ }
 {
     let Found::At(block) = estimate else {
         return false;
@@ -158,21 +159,17 @@ fn is_completable<'a>(
     if block != g {
         return true;
     }
-    let Found::At(lowest) = vote_search::find_ghost(
+    let lowest = vote_search::descend(
         parents,
         used,
         above,
         rows,
         order,
         listed,
-        heads,
-        tips,
         weights,
         possible,
         block,
-    ) else {
-        return true;
-    };
+    );
     lowest == g
 }
 
@@ -215,12 +212,9 @@ pub fn update<'a>(
             completable: answers.completable,
         };
     }
-    let weighty = Question {
-        phase: Phase::Precommit,
-        condition: Condition::AtLeast(threshold),
-        equivocations,
-    };
-    let finalized = vote_search::find_ancestor(
+    let equivocated = context::weighing::weight(weights, equivocations, Phase::Precommit);
+    let still = PossibleToPrecommit::new(total, threshold, heard.precommit, equivocated);
+    let both = vote_search::find_both(
         parents,
         used,
         above,
@@ -229,28 +223,17 @@ pub fn update<'a>(
         tips,
         weights,
         base,
-        weighty,
+        equivocations,
+        still,
         g,
     );
-    let equivocated = context::weighing::weight(weights, equivocations, Phase::Precommit);
-    let still = PossibleToPrecommit::new(total, threshold, heard.precommit, equivocated);
+    let finalized = both.weighty;
+    let estimate = both.possible;
     let possible = Question {
         phase: Phase::Precommit,
         condition: Condition::Possible(still),
         equivocations,
     };
-    let estimate = vote_search::find_ancestor(
-        parents,
-        used,
-        above,
-        rows,
-        heads,
-        tips,
-        weights,
-        base,
-        possible,
-        g,
-    );
     let completable = is_completable(
         parents,
         used,
@@ -258,8 +241,6 @@ pub fn update<'a>(
         rows,
         order,
         listed,
-        heads,
-        tips,
         weights,
         possible,
         g,

@@ -63,6 +63,10 @@ settle up g ok (suc f) b ns =
 unfoldable pub following : (ℕ → ℕ) → Graph → ℕ → List ℕ
 following up g b = keep (under up b) (children up g (nearest up (g .used) b))
 
+-- where `find_ghost` ends from a block that passes
+abbrev pub descend : (ℕ → ℕ) → Graph → (List ℕ → Bool) → ℕ → ℕ
+descend up g ok b = settle up g ok 256 b (following up g b)
+
 -- `find_ghost` from a block: none where the block does not pass
 unfoldable pub find-ghost : (ℕ → ℕ) → Graph → (List ℕ → Bool) → ℕ → Option ℕ
-find-ghost up g ok b = cond (ok (tally up g b)) (some (settle up g ok 256 b (following up g b))) none
+find-ghost up g ok b = cond (ok (tally up g b)) (some (descend up g ok b)) none

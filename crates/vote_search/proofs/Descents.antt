@@ -1,8 +1,8 @@
 -- The nodes that follow a block by the columns, and the turns of the search down.
-use mathlib.Core.Bool.{Bool, true, false}
+use mathlib.Core.Bool.{Bool, true, false, cond}
 use mathlib.Core.List.{List}
 use mathlib.Core.Option.{none, some}
-use mathlib.Core.Path.{_≡_, sym, ap, subst, _∙_}
+use mathlib.Core.Path.{_≡_, refl, sym, ap, subst, _∙_}
 use mathlib.Core.Logic.{_≢_}
 use Prim.Native.Nat.{ℕ, zero, suc, pred, _≤_, _<_}
 use native.Mathlib.Omega.{arith}
@@ -15,17 +15,17 @@ use Rattle.grandpa.specs.Tree.{below}
 use Rattle.grandpa.proofs.Trees.{below-up, below-trans, below-le, below-step}
 use Rattle.graph.specs.Search.{nearest}
 use Rattle.graph.specs.Graph.{Graph, tally, children}
-use Rattle.graph.specs.Ghost.{under, first-in, merge, settle, following, find-ghost}
+use Rattle.graph.specs.Ghost.{under, first-in, merge, settle, following, descend, find-ghost}
 use Rattle.graph.proofs.Climbs.{nearest-says}
 use Rattle.graph.proofs.Followed.{is-under}
 use Rattle.nodes.specs.declared.Places.{Places}
-use Rattle.nodes.specs.Nodes.{col, flag, placed, listed-under}
+use Rattle.nodes.specs.Nodes.{col, flag, row, placed, listed-under}
 use Rattle.nodes.specs.Columns.{Columns, Sound, view}
 use Rattle.nodes.proofs.Lists.{length-kept, length-keep, placed-front, placed-count}
 use Rattle.vote_search.specs.declared.Tally.{Tally}
 use Rattle.vote_merge.specs.Merges.{Lower}
 use Rattle.vote_merge.proofs.Lowers.{lower-kept}
-use Rattle.vote_search.specs.Searches.{tallied, followed}
+use Rattle.vote_search.specs.Searches.{tallied, followed, unheaded}
 use Rattle.vote_search.proofs.Ancestors.{tallied-is}
 use Rattle.nodes.proofs.Tied.{listed-is}
 
@@ -90,6 +90,36 @@ module _ (parents ids : List ℕ) (base count : ℕ) (g : Columns) (sound : Soun
       is-under up falls x n (below-trans up falls x (up n) n l (below-up up falls n))
       (λ e. omega (arith, below-le up falls x (up n) l, falls n, below-le up falls base n inside, r .1))
 
+  -- what the heads have to do with it: nothing
+  abbrev bare : Graph
+  bare = unheaded (g .used) (g .rows) (g .order) (g .listed)
+
+  pub following-unheaded : (b : ℕ) → following (col parents) bare b ≡ following (col parents) (view g) b
+  unfolding following children
+  following-unheaded b = refl
+
+  pub children-unheaded : (x : ℕ) → children (col parents) bare x ≡ children (col parents) (view g) x
+  unfolding children
+  children-unheaded x = refl
+
+  settle-unheaded : (ok : List ℕ → Bool) (f b : ℕ) (ns : List ℕ) → settle (col parents) bare ok f b ns ≡ settle (col parents) (view g) ok f b ns
+  unfolding settle
+  settle-unheaded ok zero b ns = refl
+  settle-unheaded ok (suc f) b ns =
+      let c = first-in (λ n. ok (row (g .rows) n)) ns in
+      ap (λ (x : ℕ). cond (eqb c 0) (merge (col parents) (row (g .rows)) ok 256 b ns) x)
+      (ap (settle (col parents) bare ok f c) (children-unheaded c) ∙ settle-unheaded ok f c (children (col parents) (view g) c))
+
+  pub descend-unheaded : (ok : List ℕ → Bool) (b : ℕ) → descend (col parents) bare ok b ≡ descend (col parents) (view g) ok b
+  descend-unheaded ok b =
+      ap (settle (col parents) bare ok 256 b) (following-unheaded b) ∙ settle-unheaded ok 256 b (following (col parents) (view g) b)
+
+  -- a block that passes
+  pub ghost-from : (ok : List ℕ → Bool) (b : ℕ) → ok (tally (col parents) (view g) b) ≡ true → (r : ℕ) → r ≡ descend (col parents) bare ok b
+      → find-ghost (col parents) (view g) ok b ≡ some r
+  unfolding find-ghost
+  ghost-from ok b e r q = rw (e, ← descend-unheaded ok b, ← q)
+
   -- the two ends of `find_ghost`
   module _ (ok : List ℕ → Bool) (b : ℕ) (l : T (below (col parents) base b)) (v : Tally)
       (told : v ≡ tallied parents (g .used) (g .above) (g .rows) (g .heads) (g .tips) b) where
@@ -100,7 +130,5 @@ module _ (parents ids : List ℕ) (base count : ℕ) (g : Columns) (sound : Soun
     unfolding find-ghost
     ghost-none e = rw (asked false e)
 
-    pub ghost-some : ok (v .bits) ≡ true → (r : ℕ) → r ≡ settle (col parents) (view g) ok 256 b (following (col parents) (view g) b)
-        → find-ghost (col parents) (view g) ok b ≡ some r
-    unfolding find-ghost
-    ghost-some e r q = rw (asked true e, ← q)
+    pub ghost-some : ok (v .bits) ≡ true → (r : ℕ) → r ≡ descend (col parents) bare ok b → find-ghost (col parents) (view g) ok b ≡ some r
+    ghost-some e = ghost-from ok b (asked true e)

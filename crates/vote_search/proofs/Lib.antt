@@ -1,4 +1,5 @@
 pub mod Turns
 pub mod Ancestors
+pub mod Together
 pub mod Descents
 pub mod Questions

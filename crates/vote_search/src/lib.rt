@@ -2,11 +2,13 @@
 ghost use mathlib.Core.Path.{_≡_};
 ghost use mathlib.Core.List.{List};
 ghost use Prim.Native.Nat.{ℕ, _≤_};
-ghost use Rattle.graph.specs.Ghost.{find-ancestor, find-ghost};
+ghost use Rattle.graph.specs.Ghost.{find-ancestor, descend, find-ghost};
 ghost use Rattle.nodes.specs.Nodes.{col, Falls, placed, passes};
 ghost use Rattle.nodes.specs.Columns.{view, as-found};
-ghost use Rattle.vote_search.specs.Searches.{tallied, followed, Stands, unlisted};
+ghost use Rattle.vote_search.specs.Searches.{tallied, followed, Stands, unlisted, unheaded, or-else, this, both};
 use climbs::wide;
+use context::Phase;
+use grandpa::PossibleToPrecommit;
 use nodes::Found;
 use nodes::Places;
 use nodes::Question;
@@ -15,6 +17,12 @@ use nodes::Question;
 pub struct Tally {
     pub inside: bool,
     pub bits: [u64; 2],
+}
+
+// The first block of threshold weight and the first that can still get it.
+pub struct Both {
+    pub weighty: Found,
+    pub possible: Found,
 }
 
 // Who voted at or below a block: its node's own bits, else those of the nodes whose edge holds it.
@@ -83,6 +91,73 @@ pub fn find_ancestor<'a>(
     found
 }
 
+// The block found, or else this one where it can still get the threshold.
+fn or_this(found: Found, still: PossibleToPrecommit, weight: u64, block: u8) -> Found
+    ensures { λ r. ⌜ r ≡ or-else found (this still weight block) ⌝ }
+{
+    match found {
+        Found::At(first) => Found::At(first),
+        Found::Nothing => {
+            if still.holds(weight) {
+                return Found::At(block);
+            }
+            Found::Nothing
+        }
+    }
+}
+
+// The first block from a block towards the base of precommit weight at least the threshold, and the first that can still
+// get it: one climb, which weighs a block once for both. A block of that weight can, so that the climb may end there.
+pub fn find_both<'a>(
+    parents: &'a [u8; 256],
+    used: &'a [bool; 256],
+    above: &'a [u8; 256],
+    rows: &'a [[u64; 2]; 256],
+    heads: &'a [u8; 256],
+    tips: usize,
+    weights: &'a [u64; 64],
+    base: u8,
+    equivocations: [u64; 2],
+    still: PossibleToPrecommit,
+    block: u8,
+) -> Both
+    requires { ⌜ ((order : List ℕ) × (listed : ℕ) × Stands (now parents) base (record { used = now used; above = now above; rows = now rows; order = order; listed = listed; heads = now heads; tips = tips }) block) ⌝ }
+    ensures { λ r. ⌜ r ≡ both (col (now (parents .entry))) (unlisted (now (used .entry)) (now (rows .entry)) (now (heads .entry)) tips) base (now (weights .entry)) equivocations still block ⌝ }
+{
+    let mut possible = Found::Nothing;
+    let mut here = block;
+    loop {
+        let tally = cumulative_vote(parents, used, above, rows, heads, tips, here);
+        if !tally.inside {
+            return Both {
+                weighty: Found::Nothing,
+                possible,
+            };
+        }
+        let bits = tally.bits;
+        let weight = context::weighing::merged_weight(
+            weights,
+            bits,
+            equivocations,
+            Phase::Precommit,
+        );
+        possible = or_this(possible, still, weight, here);
+        if still.threshold <= weight {
+            return Both {
+                weighty: Found::At(here),
+                possible,
+            };
+        }
+        if here == base {
+            return Both {
+                weighty: Found::Nothing,
+                possible,
+            };
+        }
+        here = parents[wide(here)];
+    }
+}
+
 // The nodes that follow a block: strictly below it, with no node between.
 fn following<'a>(
     parents: &'a [u8; 256],
@@ -100,6 +175,40 @@ fn following<'a>(
     let places = nodes.places;
     let count = nodes.count;
     nodes::strictly_below(parents, &places, count, block)
+}
+
+// From a block that answers a question with yes down the nodes that do, the first of each list, and then to the merge
+// point.
+pub fn descend<'a>(
+    parents: &'a [u8; 256],
+    used: &'a [bool; 256],
+    above: &'a [u8; 256],
+    rows: &'a [[u64; 2]; 256],
+    order: &'a [u8; 256],
+    listed: usize,
+    weights: &'a [u64; 64],
+    question: Question,
+    block: u8,
+) -> u8
+    requires { ⌜ ((heads : List ℕ) × (tips : ℕ) × (base : ℕ) × Stands (now parents) base (record { used = now used; above = now above; rows = now rows; order = now order; listed = listed; heads = heads; tips = tips }) block) ⌝ }
+    ensures { λ r. ⌜ r ≡ descend (col (now (parents .entry))) (unheaded (now (used .entry)) (now (rows .entry)) (now (order .entry)) listed) (passes (now (weights .entry)) question) block ⌝ }
+{
+    let follow = following(parents, used, above, order, listed, block);
+    let mut last = block;
+    let mut places = follow.places;
+    let mut count = follow.count;
+    loop {
+        let child = vote_merge::first_passing(rows, weights, question, &places, count);
+        if child == 0 {
+            let nodes = Places { places, count };
+            return vote_merge::merge_point(parents, rows, weights, question, nodes, last);
+        }
+        let next = nodes::children(above, order, listed, child);
+        let lower = next.places;
+        places = lower;
+        count = next.count;
+        last = child;
+    }
 }
 
 // From a block down the nodes that answer a question with yes, the first of each list, and then to the merge point.
@@ -125,27 +234,15 @@ pub fn find_ghost<'a>(
     if !nodes::passes(weights, question, bits) {
         return Found::Nothing;
     }
-    let follow = following(parents, used, above, order, listed, block);
-    let mut last = block;
-    let mut places = follow.places;
-    let mut count = follow.count;
-    loop {
-        let child = vote_merge::first_passing(rows, weights, question, &places, count);
-        if child == 0 {
-            let nodes = Places { places, count };
-            return Found::At(vote_merge::merge_point(
-                parents,
-                rows,
-                weights,
-                question,
-                nodes,
-                last,
-            ));
-        }
-        let next = nodes::children(above, order, listed, child);
-        let lower = next.places;
-        places = lower;
-        count = next.count;
-        last = child;
-    }
+    Found::At(descend(
+        parents,
+        used,
+        above,
+        rows,
+        order,
+        listed,
+        weights,
+        question,
+        block,
+    ))
 }
