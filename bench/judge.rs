@@ -4,7 +4,7 @@
 use super::{run, Telling};
 use alloc::string::String;
 
-/// Numbers of a report, at the places that `beamtassel_replay` writes them to.
+/// Numbers of a report, at the places that `beamtassel_replay` writes them to (include/beamtassel.h).
 pub type Numbers = [u64; 22];
 
 fn block(at: usize, block: Option<(u32, u32)>, numbers: &mut Numbers) {
@@ -22,13 +22,16 @@ pub fn replay(journal: &[u8], numbers: &mut Numbers) {
     *numbers = [0; 22];
     numbers[3] = end.records;
     if let Some(number) = end.refused {
+        numbers[0] = 2;
         numbers[1] = number as u64;
         numbers[2] = end.records + 1;
         return;
     }
     numbers[4] = end.tail as u64;
-    let Some(round) = &end.judge.round else { return };
-    numbers[0] = 1;
+    let Some(round) = &end.judge.round else {
+        numbers[0] = 1;
+        return;
+    };
     numbers[5] = round.number();
     numbers[6] = round.voters().total_weight().get();
     numbers[7] = round.threshold().get();
