@@ -189,7 +189,7 @@ impl Settings {
 fn replays(settings: &Settings) {
     let head = ["journal", "votes", "ours, ns a replay", "Rust", "ours, ns a vote", "Rust", "times as fast"];
     let mut table = Table::new(settings.markdown, &head);
-    let (mut logs, mut count, mut worst) = (0.0, 0, (f64::INFINITY, String::new()));
+    let (mut logs, mut count, mut all, mut slower) = (0.0, 0, 0, Vec::new());
     for case in journals::replays().iter().chain(&journals::voteless()) {
         if !settings.wanted(case) {
             continue;
@@ -202,8 +202,9 @@ fn replays(settings: &Settings) {
             logs += ratio.ln();
             count += 1;
         }
-        if ratio < worst.0 {
-            worst = (ratio, case.name.clone());
+        all += 1;
+        if ratio < 1.0 {
+            slower.push(format!("{} ({ratio:.2})", case.name));
         }
         table.row(vec![
             case.name.clone(),
@@ -218,8 +219,12 @@ fn replays(settings: &Settings) {
     table.print();
     if count > 0 {
         let mean = (logs / count as f64).exp();
-        println!("Geometric mean of the {count} journals with votes: {mean:.2} times as fast.");
-        println!("Slowest beside the Rust: {} ({:.2}).\n", worst.1, worst.0);
+        println!("Geometric mean of the {count} journals with votes: {mean:.2} times as fast (goal: 4).\n");
+    }
+    if !slower.is_empty() {
+        println!("Slower than the Rust on {} of {all} (goal: none): {}.\n", slower.len(), slower.join(", "));
+    } else if all > 0 {
+        println!("Slower than the Rust on none of {all} (goal: none).\n");
     }
 }
 
@@ -230,7 +235,7 @@ fn imports(settings: &Settings) {
     }
     let head = ["tested import at", "votes", "ours, ns an import", "Rust, untested", "ours to the Rust"];
     let mut table = Table::new(settings.markdown, &head);
-    let mut worst: f64 = 0.0;
+    let mut worst = (0.0, String::new());
     for case in journals::imports() {
         if !settings.wanted(&case) {
             continue;
@@ -241,7 +246,9 @@ fn imports(settings: &Settings) {
         let [whole, cut, rust, short] = time([whole, cut, rust, short], settings.rounds);
         let votes = case.votes as f64;
         let (here, there) = ((whole - cut) / votes, (rust - short) / votes);
-        worst = worst.max(here / there);
+        if here / there > worst.0 {
+            worst = (here / there, case.name.clone());
+        }
         table.row(vec![
             case.name.clone(),
             case.votes.to_string(),
@@ -251,8 +258,8 @@ fn imports(settings: &Settings) {
         ]);
     }
     table.print();
-    if worst > 0.0 {
-        println!("Most: {worst:.2} times the Rust's import.\n");
+    if worst.0 > 0.0 {
+        println!("At most {:.2} times the Rust's import (goal: 2.5), with {}.\n", worst.0, worst.1);
     }
 }
 
