@@ -104,21 +104,29 @@ impl<'a> Call<'a> {
     }
 }
 
-/// Nanoseconds a call, the best of so many batches each. The calls take turns, so that a busy
-/// machine is busy for all of them.
-fn time<const N: usize>(mut calls: [Call; N], rounds: u32) -> [f64; N] {
-    for call in &mut calls {
+/// So many passes over all journals, so that one that falls into a busy second is timed again in others.
+const PASSES: u32 = 10;
+
+/// Nanoseconds a call, the best of so many batches each. The calls for a journal take turns, so that a busy machine is
+/// busy for all of them.
+fn time<const N: usize>(groups: Vec<[Call; N]>, rounds: u32) -> Vec<[f64; N]> {
+    let mut groups = groups;
+    for call in groups.iter_mut().flatten() {
         while call.batch() < Duration::from_micros(200) {
             call.batch *= 2;
         }
     }
-    for _ in 0..rounds {
-        for call in &mut calls {
-            let took = call.batch().as_nanos() as f64 / call.batch as f64;
-            call.best = call.best.min(took);
+    for _ in 0..PASSES {
+        for group in &mut groups {
+            for _ in 0..rounds.div_ceil(PASSES) {
+                for call in group.iter_mut() {
+                    let took = call.batch().as_nanos() as f64 / call.batch as f64;
+                    call.best = call.best.min(took);
+                }
+            }
         }
     }
-    calls.map(|call| call.best)
+    groups.into_iter().map(|group| group.map(|call| call.best)).collect()
 }
 
 /// A table as text, or as markdown.
@@ -181,28 +189,42 @@ struct Settings {
 }
 
 impl Settings {
-    fn wanted(&self, case: &Case) -> bool {
-        self.only.as_ref().map_or(true, |name| case.name.contains(name.as_str()))
+    fn wanted(&self, mut cases: Vec<Case>) -> Vec<Case> {
+        if let Some(name) = &self.only {
+            cases.retain(|case| case.name.contains(name.as_str()));
+        }
+        cases
     }
+}
+
+/// The journals whose replays are timed.
+fn all() -> Vec<Case> {
+    journals::replays().into_iter().chain(journals::voteless()).collect()
+}
+
+fn both(case: &Case) -> [Call<'_>; 2] {
+    [Call::whole(Side::Ours, case), Call::whole(Side::Rust, case)]
+}
+
+/// The whole journal, and what comes before its first vote.
+fn parts(side: Side, case: &Case) -> [Call<'_>; 2] {
+    [Call::whole(side, case), Call::cut(side, case)]
 }
 
 fn replays(settings: &Settings) {
     let head = ["journal", "votes", "ours, ns a replay", "Rust", "ours, ns a vote", "Rust", "times as fast"];
     let mut table = Table::new(settings.markdown, &head);
-    let (mut logs, mut count, mut all, mut slower) = (0.0, 0, 0, Vec::new());
-    for case in journals::replays().iter().chain(&journals::voteless()) {
-        if !settings.wanted(case) {
-            continue;
-        }
-        compare(case);
-        let [here, there] = time([Call::whole(Side::Ours, case), Call::whole(Side::Rust, case)], settings.rounds);
+    let cases = settings.wanted(all());
+    cases.iter().for_each(compare);
+    let times = time(cases.iter().map(both).collect(), settings.rounds);
+    let (mut logs, mut count, mut slower) = (0.0, 0, Vec::new());
+    for (case, [here, there]) in cases.iter().zip(times) {
         let ratio = there / here;
         // The mean is of journals with votes.
         if case.votes > 0 {
             logs += ratio.ln();
             count += 1;
         }
-        all += 1;
         if ratio < 1.0 {
             slower.push(format!("{} ({ratio:.2})", case.name));
         }
@@ -218,13 +240,13 @@ fn replays(settings: &Settings) {
     }
     table.print();
     if count > 0 {
-        let mean = (logs / count as f64).exp();
+        let mean = f64::exp(logs / count as f64);
         println!("Geometric mean of the {count} journals with votes: {mean:.2} times as fast (goal: 4).\n");
     }
     if !slower.is_empty() {
-        println!("Slower than the Rust on {} of {all} (goal: none): {}.\n", slower.len(), slower.join(", "));
-    } else if all > 0 {
-        println!("Slower than the Rust on none of {all} (goal: none).\n");
+        println!("Slower than the Rust on {} of {} (goal: none): {}.\n", slower.len(), cases.len(), slower.join(", "));
+    } else if !cases.is_empty() {
+        println!("Slower than the Rust on none of {} (goal: none).\n", cases.len());
     }
 }
 
@@ -235,19 +257,22 @@ fn imports(settings: &Settings) {
     }
     let head = ["tested import at", "votes", "ours, ns an import", "Rust, untested", "ours to the Rust"];
     let mut table = Table::new(settings.markdown, &head);
-    let mut worst = (0.0, String::new());
-    for case in journals::imports() {
-        if !settings.wanted(&case) {
-            continue;
-        }
+    let cases = settings.wanted(journals::imports());
+    for case in &cases {
         assert_eq!(tested(&case.journal, case.opened), case.votes as u64, "{}: an import was refused", case.name);
-        let (whole, cut) = (Call::whole(Side::Tested, &case), Call::cut(Side::Tested, &case));
-        let (rust, short) = (Call::whole(Side::Rust, &case), Call::cut(Side::Rust, &case));
-        let [whole, cut, rust, short] = time([whole, cut, rust, short], settings.rounds);
+    }
+    let four = |case| {
+        let [whole, cut] = parts(Side::Tested, case);
+        let [rust, short] = parts(Side::Rust, case);
+        [whole, cut, rust, short]
+    };
+    let times = time(cases.iter().map(four).collect(), settings.rounds);
+    let mut worst = (0.0, "");
+    for (case, [whole, cut, rust, short]) in cases.iter().zip(times) {
         let votes = case.votes as f64;
         let (here, there) = ((whole - cut) / votes, (rust - short) / votes);
         if here / there > worst.0 {
-            worst = (here / there, case.name.clone());
+            worst = (here / there, &case.name);
         }
         table.row(vec![
             case.name.clone(),
@@ -268,16 +293,16 @@ fn sweeps(settings: &Settings) {
         let head =
             [name, "votes", "ours, ns a replay", "ours, ns a vote", "Rust", "times as fast", "tested, ns an import"];
         let mut table = Table::new(settings.markdown, &head);
-        for case in &cases {
-            compare(case);
-            let [here, there] = time([Call::whole(Side::Ours, case), Call::whole(Side::Rust, case)], settings.rounds);
-            let cost = if cfg!(imports) {
-                let [whole, cut] =
-                    time([Call::whole(Side::Tested, case), Call::cut(Side::Tested, case)], settings.rounds);
-                per(whole - cut, case.votes)
-            } else {
-                String::from("-")
-            };
+        cases.iter().for_each(compare);
+        let times = time(cases.iter().map(both).collect(), settings.rounds);
+        let tested: Vec<String> = if cfg!(imports) {
+            let two = |case| parts(Side::Tested, case);
+            let times = time(cases.iter().map(two).collect(), settings.rounds);
+            cases.iter().zip(times).map(|(case, [whole, cut])| per(whole - cut, case.votes)).collect()
+        } else {
+            vec![String::from("-"); cases.len()]
+        };
+        for ((case, [here, there]), tested) in cases.iter().zip(times).zip(tested) {
             table.row(vec![
                 case.name.clone(),
                 case.votes.to_string(),
@@ -285,7 +310,7 @@ fn sweeps(settings: &Settings) {
                 per(here, case.votes),
                 per(there, case.votes),
                 format!("{:.2}", there / here),
-                cost,
+                tested,
             ]);
         }
         table.print();
@@ -355,7 +380,7 @@ fn stop() -> ! {
 
 fn main() {
     let mut words: Vec<String> = Vec::new();
-    let mut settings = Settings { markdown: false, rounds: 60, only: None };
+    let mut settings = Settings { markdown: false, rounds: 100, only: None };
     let mut given = std::env::args().skip(1);
     while let Some(word) = given.next() {
         match word.as_str() {
@@ -365,23 +390,22 @@ fn main() {
             _ => words.push(word),
         }
     }
-    let cases = || -> Vec<Case> { journals::replays().into_iter().chain(journals::voteless()).collect() };
     match words.first().map(String::as_str) {
         Some("time") => replays(&settings),
         Some("imports") => imports(&settings),
         Some("sweeps") => sweeps(&settings),
         Some("stacks") => stacks(&settings),
-        Some("names") => cases().iter().for_each(|case| println!("{}\t{}", case.votes, case.name)),
+        Some("names") => all().iter().for_each(|case| println!("{}\t{}", case.votes, case.name)),
         Some("import-names") => journals::imports().iter().for_each(|case| println!("{}\t{}", case.votes, case.name)),
-        Some("compare") => cases().iter().for_each(compare),
-        Some("count") => count(side(words.get(1)), &cases(), false),
+        Some("compare") => all().iter().for_each(compare),
+        Some("count") => count(side(words.get(1)), &all(), false),
         Some("count-imports") => {
             count(side(words.get(1)), &journals::imports(), words.get(2).is_some_and(|word| word == "cut"))
         }
         Some("only") => {
-            let all: Vec<Case> = cases().into_iter().chain(journals::imports()).collect();
+            let cases: Vec<Case> = all().into_iter().chain(journals::imports()).collect();
             let case =
-                words.get(2).and_then(|name| all.iter().find(|case| case.name == *name)).unwrap_or_else(|| stop());
+                words.get(2).and_then(|name| cases.iter().find(|case| case.name == *name)).unwrap_or_else(|| stop());
             let times: u32 = words.get(3).and_then(|n| n.parse().ok()).unwrap_or_else(|| stop());
             for _ in 0..times {
                 bench_counted(side(words.get(1)), &case.journal, case.opened);
