@@ -27,7 +27,7 @@ fn number_of(written: Written) -> u64
     }
 }
 
-// The one place where a journal is replayed for its figures.
+// The one place where a journal is replayed for its report.
 fn summary_of(journal: &[u8]) -> Summary
     ensures { λ r. ⌜ r ≡ summed (replayed (now (journal .entry))) ⌝ }
 {
@@ -47,7 +47,7 @@ pub extern "C" fn beamtassel_replay(journal: &[u8], out: &mut [u8]) -> u64
 pub extern "C" fn beamtassel_print(journal: &[u8], out: &mut [u8]) -> u64
     ensures { λ r. ⌜ _≡_ {A = Call} (record { number = r; out = now (out .exit) }) (print-call (now (journal .entry)) (now (out .entry))) ⌝ }
 {
-    number_of(report::print(feeding::replayed(journal), out))
+    number_of(summary_lines::print(summary_of(journal), out))
 }
 
 fn has_round(turn: Turn) -> bool

@@ -5,12 +5,12 @@ use Rattle.beamtassel.proofs.beamtassel_print.Tie as tie
 use Rattle.beamtassel.proofs.beamtassel_print.Reads as reads
 use Rattle.beamtassel.proofs.beamtassel_print.Lts as lts
 use Rattle.beamtassel.proofs.number_of.Reads as number-of-reads
-use Rattle.feeding.proofs.replayed.Reads as replayed-reads
-use Rattle.report.proofs.print.Reads as print-reads
+use Rattle.beamtassel.proofs.summary_of.Reads as summary-of-reads
+use Rattle.summary_lines.proofs.print.Reads as print-reads
 
--- src/lib.rt:50:29
-replayed-requires : tie.Need-replayed-requires
-replayed-requires c κs = search needs
+-- src/lib.rt:50:36
+summary-of-requires : tie.Need-summary-of-requires
+summary-of-requires c κs = search needs
 
 -- src/lib.rt:50:15
 print-requires : tie.Need-print-requires
@@ -26,8 +26,8 @@ same-length c = search needs
 
 -- src/lib.rt:46:1
 returns : tie.Need-returns
-returns c = print-done (c .before .before .before .before .before .before .before .before .args .journal .now) (c .before .before .before .before .before .before .before .before .args .out .now) _ (c .before .before .before .before .before .replayed .ensures) _ _ _ (c .number-of .ensures) (c .before .before .before .print .ensures)
+returns c = print-done (c .before .before .before .before .before .before .before .before .args .journal .now) (c .before .before .before .before .before .before .before .before .args .out .now) _ (c .before .before .before .before .before .summary-of .ensures) _ _ _ (c .number-of .ensures) (c .before .before .before .print .ensures)
 
 pub beamtassel-print-spec : {M : Type 1} → statement M
 beamtassel-print-spec =
-    tie.close (tie.spec replayed-requires print-requires number-of-requires same-length returns)
+    tie.close (tie.spec summary-of-requires print-requires number-of-requires same-length returns)
