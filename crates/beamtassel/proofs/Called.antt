@@ -19,14 +19,15 @@ use Rattle.two_views.specs.declared.Views.{Views}
 use Rattle.two_views.specs.Views.{views}
 use Rattle.feeding.specs.declared.Stop.the-variants.{Open, Refused}
 use Rattle.feeding.specs.declared.Replay.{Replay}
-use Rattle.feeding.specs.Feeding.{stands, replayed}
-use Rattle.report.specs.Report.{lines-of, printed}
+use Rattle.feeding.specs.Feeding.{replayed}
 use Rattle.summary.specs.declared.Summary.{Summary}
 use Rattle.summary.specs.Summary.{summed}
+use Rattle.summary_lines.specs.Text.{text-of, printed}
+use Rattle.summary_lines.proofs.Same.{text-summed}
 use Rattle.figures.specs.Figures.{figures, in-order, figured}
 use Rattle.figures.proofs.Rows.{figures-length}
 use Rattle.beamtassel.specs.Calls.{Call, refused, given, number-of, has-round, finalizing-in, views-in, weighed, replay-call, print-call, finalizing-call, two-views-call}
-use Rattle.beamtassel.proofs.Rounds.{passes, round-passes}
+use Rattle.beamtassel.proofs.Rounds.{round-passes}
 
 -- an answer beside a lent buffer, as a call
 abbrev as-call : Lent → Call
@@ -45,9 +46,9 @@ unfolding figured
 figures-given s out = rw (figures-length s) (call-cond (ltb (length out) 176) _ _)
 
 -- the report in lines
-lines-given : (r : Replay) → stands r ≡ true → (out : List ℕ) → as-call (printed r out) ≡ given (lines-of r) out
+lines-given : (s : Summary) (out : List ℕ) → as-call (printed s out) ≡ given (text-of s) out
 unfolding printed
-lines-given r p out = rw p (call-cond (ltb (length out) (length (lines-of r))) _ _)
+lines-given s out = call-cond (ltb (length out) (length (text-of s))) _ _
 
 -- records one after the other
 written-given : (f : ℕ → List ℕ) → ((e : ℕ) → length (f e) ≡ 22) → (es out : List ℕ) → as-call (written f es out) ≡ given (in-a-row f es) out
@@ -75,13 +76,14 @@ module _ (js out : List ℕ) where
   unfolding replay-call
   replay-done s e w n after f h = called w n after f _ h ∙ figures-given s out ∙ ap (λ (x : Summary). given (in-order (figures x)) out) e
 
-  module _ (r : Replay) (is : r ≡ replayed js) where
-    pub print-done : (w : Written) (n : ℕ) (after : List ℕ) → n ≡ number-of w → record { answer = w; bytes = after } ≡ printed r out
-        → record { number = n; out = after } ≡ print-call js out
-    unfolding print-call
-    print-done w n after f h =
-        called w n after f _ h ∙ ap (λ (x : Replay). as-call (printed x out)) is ∙ lines-given (replayed js) (passes js) out
+  pub print-done : (s : Summary) → s ≡ summed (replayed js) → (w : Written) (n : ℕ) (after : List ℕ) → n ≡ number-of w
+      → record { answer = w; bytes = after } ≡ printed s out → record { number = n; out = after } ≡ print-call js out
+  unfolding print-call
+  print-done s e w n after f h =
+      called w n after f _ h ∙ lines-given s out ∙ ap (λ (x : Summary). given (text-of x) out) e
+      ∙ ap (λ (t : List ℕ). given t out) (text-summed (replayed js))
 
+  module _ (r : Replay) (is : r ≡ replayed js) where
     pub finalizing-refused : (k : ℕ) → r .stop ≡ Refused k → (n : ℕ) → n ≡ 4294967296 + k → record { number = n; out = out } ≡ finalizing-call js out
     unfolding finalizing-call
     finalizing-refused k stop n f = rw (← is, stop, f)

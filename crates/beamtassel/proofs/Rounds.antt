@@ -1,4 +1,4 @@
--- A journal's replay passes its own test, and so does its round: no call here is refused with 9.
+-- The round of a journal passes its test: no call here is refused with 9.
 use mathlib.Core.Bool.{Bool, true, false, _&&_}
 use mathlib.Core.List.{List}
 use mathlib.Core.Path.{_≡_}
@@ -14,9 +14,6 @@ use Rattle.journal.specs.Journal.{unset, stands-by}
 use Rattle.feeding.specs.Feeding.{rest-stands, replayed, stands}
 use Rattle.replay_laws.proofs.Feeds.{replay-stands}
 use Rattle.beamtassel.specs.Calls.{has-round}
-
-pub passes : (bs : List ℕ) → stands (replayed bs) ≡ true
-passes bs = true-T (stands (replayed bs)) (replay-stands bs)
 
 journal-passes : (bs : List ℕ) → T (journal.stands (replayed bs .journal))
 unfolding stands

@@ -37,7 +37,7 @@ pub extern "C" fn beamtassel_replay(journal: &[u8], out: &mut [u8]) -> u64
 pub extern "C" fn beamtassel_print(journal: &[u8], out: &mut [u8]) -> u64
     ensures { λ r. ⌜ _≡_ {A = Call} (record { number = r; out = now (out .exit) }) (print-call (now (journal .entry)) (now (out .entry))) ⌝ }
 {
-    number_of(report::print(feeding::replayed(journal), out))
+    number_of(summary_lines::print(summing::replayed(journal), out))
 }
 
 fn has_round(turn: Turn) -> bool

@@ -45,7 +45,7 @@ fn put_named(out: &mut [u8; 512], at: usize, word: &[u8], n: u64) -> usize
     put_number(out, a, n)
 }
 
-fn put_line(out: &mut [u8; 512], at: usize, word: &[u8], n: u64) -> usize
+pub fn put_line(out: &mut [u8; 512], at: usize, word: &[u8], n: u64) -> usize
     requires { ⌜ at + length (now word) + 21 ≤ 512 ⌝ }
     ensures { λ r. ⌜ (Put (now (out .entry)) at (line (now (word .entry)) n) (now (out .exit)) r) × (r ≤ at + length (now (word .entry)) + 21) ⌝ }
 {
@@ -54,7 +54,7 @@ fn put_line(out: &mut [u8; 512], at: usize, word: &[u8], n: u64) -> usize
 }
 
 // Heard weight, total, threshold and voters heard.
-fn put_heard(
+pub fn put_heard(
     out: &mut [u8; 512],
     at: usize,
     word: &[u8],
@@ -89,7 +89,7 @@ fn put_told(out: &mut [u8; 512], at: usize, told: Told) -> usize
     }
 }
 
-fn put_block(out: &mut [u8; 512], at: usize, word: &[u8], told: Told) -> usize
+pub fn put_block(out: &mut [u8; 512], at: usize, word: &[u8], told: Told) -> usize
     requires { ⌜ at + length (now word) + 43 ≤ 512 ⌝ }
     ensures { λ r. ⌜ (Put (now (out .entry)) at (block-line (now (word .entry)) told) (now (out .exit)) r) × (r ≤ at + length (now (word .entry)) + 43) ⌝ }
 {
@@ -97,7 +97,7 @@ fn put_block(out: &mut [u8; 512], at: usize, word: &[u8], told: Told) -> usize
     put_told(out, a, told)
 }
 
-fn put_completable(out: &mut [u8; 512], at: usize, completable: bool) -> usize
+pub fn put_completable(out: &mut [u8; 512], at: usize, completable: bool) -> usize
     requires { ⌜ at + 16 ≤ 512 ⌝ }
     ensures { λ r. ⌜ (Put (now (out .entry)) at (completable-line completable) (now (out .exit)) r) × (r ≤ at + 16) ⌝ }
 {

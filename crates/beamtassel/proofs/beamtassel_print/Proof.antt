@@ -5,10 +5,10 @@ use Rattle.beamtassel.proofs.beamtassel_print.Tie as tie
 use Rattle.beamtassel.proofs.beamtassel_print.Reads as reads
 use Rattle.beamtassel.proofs.beamtassel_print.Lts as lts
 use Rattle.beamtassel.proofs.number_of.Reads as number-of-reads
-use Rattle.feeding.proofs.replayed.Reads as replayed-reads
-use Rattle.report.proofs.print.Reads as print-reads
+use Rattle.summing.proofs.replayed.Reads as replayed-reads
+use Rattle.summary_lines.proofs.print.Reads as print-reads
 
--- src/lib.rt:50:29
+-- src/lib.rt:50:36
 replayed-requires : tie.Need-replayed-requires
 replayed-requires c κs = search needs
 

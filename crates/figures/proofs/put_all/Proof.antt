@@ -3,6 +3,7 @@ use mathlib.Core.Path.{_≡_}
 use Prim.Native.Nat.{ℕ, _≤_, _<_, _-_, _+_}
 use native.Mathlib.Omega.{arith}
 use lib.ListN.{length, take, drop, length-take, length-drop}
+use Rattle.lines.proofs.Puts.{length-put}
 use Rattle.figures.proofs.Rows.{Filled, filled-none, filled-next, filled-end}
 use Rattle.figures.proofs.put_all.Statement.{statement}
 use Rattle.figures.proofs.put_all.Tie as tie
@@ -22,11 +23,11 @@ loop-holds c = (search needs, filled-none _ _)
 
 -- src/lib.rt:155:13
 sub-put : tie.Need-sub-put Inv-loop μ-loop
-sub-put c = omega (arith, c .before .loop .inv .1 .used-is, c .before .loop .inv .1 .size, c .loop-test .taken, c .before .before .before .pre)
+sub-put c = omega (arith, c .before .loop .inv .1 .used-is, length-put (c .before .loop .inv .1 .put), c .loop-test .taken, c .before .before .before .pre)
 
 -- src/lib.rt:155:13
 part-put-start : tie.Need-part-put-start Inv-loop μ-loop
-part-put-start c = omega (arith, c .before .loop .inv .1 .used-is, c .before .loop .inv .1 .size, c .loop-test .taken, c .before .before .before .pre)
+part-put-start c = omega (arith, c .before .loop .inv .1 .used-is, length-put (c .before .loop .inv .1 .put), c .loop-test .taken, c .before .before .before .pre)
 
 -- src/lib.rt:155:13
 part-put-end : tie.Need-part-put-end Inv-loop μ-loop
@@ -42,7 +43,7 @@ array-read-put c = omega (arith, c .before .loop-test .taken)
 
 -- src/lib.rt:155:9
 put-requires : tie.Need-put-requires Inv-loop μ-loop
-put-requires c κs = omega (arith, length-take (length (c .before .before .loop .out) - c .before .before .loop .used) (drop (c .before .before .loop .used) (c .before .before .loop .out)), length-drop (c .before .before .loop .used) (c .before .before .loop .out), c .before .before .loop .inv .1 .used-is, c .before .before .loop .inv .1 .size, c .before .loop-test .taken, c .before .before .before .before .pre)
+put-requires c κs = omega (arith, length-take (length (c .before .before .loop .out) - c .before .before .loop .used) (drop (c .before .before .loop .used) (c .before .before .loop .out)), length-drop (c .before .before .loop .used) (c .before .before .loop .out), c .before .before .loop .inv .1 .used-is, length-put (c .before .before .loop .inv .1 .put), c .before .loop-test .taken, c .before .before .before .before .pre)
 
 -- src/lib.rt:156:16
 add-used : tie.Need-add-used Inv-loop μ-loop
@@ -60,11 +61,11 @@ loop-less c = omega (arith, c .before .before .before .before .loop-test .taken)
 loop-again : tie.Need-loop-again Inv-loop μ-loop
 loop-again c =
     let long : length (c .before .before .before .before .before .before .before .args .t2) ≡ 22 = search needs in
-    (omega (arith, c .before .before .before .before .loop-test .taken), filled-next _ _ _ _ _ (omega (arith, long, c .before .before .before .before .loop-test .taken)) (c .before .before .before .before .before .loop .inv .1) (omega (arith, c .before .before .before .before .before .loop .inv .1 .used-is, c .before .before .before .before .loop-test .taken, c .before .before .before .before .before .before .before .pre)) _ (c .before .before .put .ensures))
+    (omega (arith, c .before .before .before .before .loop-test .taken), filled-next _ _ _ _ _ (omega (arith, long, c .before .before .before .before .loop-test .taken)) (c .before .before .before .before .before .loop .inv .1) (omega (arith, c .before .before .before .before .before .loop .inv .1 .used-is, length-put (c .before .before .before .before .before .loop .inv .1 .put), c .before .before .before .before .loop-test .taken, c .before .before .before .before .before .before .before .pre)) _ (c .before .before .put .ensures))
 
 -- src/lib.rt:149:1
 same-length : tie.Need-same-length Inv-loop μ-loop
-same-length c = c .before .loop .inv .1 .size
+same-length c = length-put (c .before .loop .inv .1 .put)
 
 -- src/lib.rt:149:1
 returns : tie.Need-returns Inv-loop μ-loop
