@@ -5,7 +5,7 @@ ghost use Prim.Native.Nat.{ℕ, _≤_, _<_};
 ghost use lib.ListN.{getD};
 ghost use Rattle.grandpa.specs.Tree.{Tabled, below};
 ghost use Rattle.blocks.specs.Table.{up, view, table-of, climbed};
-ghost use Rattle.blocks.specs.Add.{place-of, step, counted};
+ghost use Rattle.blocks.specs.Add.{place-of, append, step, counted};
 ghost use Rattle.blocks.specs.declared.Added.{Added};
 use columns::Found;
 
@@ -84,6 +84,32 @@ pub fn is_at_or_below<'a>(
     ancestor_at(parents, numbers, block, numbers[base as usize]) == base
 }
 
+// A block at the first unused place, under the block at `above`. Where it is placed, the caller counts it.
+pub fn append(
+    ids: &mut [u32; 256],
+    numbers: &mut [u32; 256],
+    parents: &mut [u8; 256],
+    count: usize,
+    id: u32,
+    above: u8,
+) -> Answer
+    requires { ⌜ count ≤ 256 ⌝ }
+    ensures { λ r. ⌜ _≡_ {A = Added} (record { answer = r; table = table-of (now (ids .exit)) (now (numbers .exit)) (now (parents .exit)) (counted count r) })
+        (append (table-of (now (ids .entry)) (now (numbers .entry)) (now (parents .entry)) count) id above) ⌝ }
+{
+    let number = number(numbers, above);
+    if number == 4294967295 {
+        return Answer::Refused(7);
+    }
+    if count == 256 {
+        return Answer::Refused(8);
+    }
+    ids[count] = id;
+    numbers[count] = number + 1;
+    parents[count] = above;
+    Answer::Placed(count as u8)
+}
+
 // One more block. Where it is placed, the caller counts it.
 pub fn add(
     ids: &mut [u32; 256],
@@ -103,17 +129,7 @@ pub fn add(
     let Place::At(above) = find(ids, count, parent) else {
         return Answer::Refused(6);
     };
-    let number = number(numbers, above);
-    if number == 4294967295 {
-        return Answer::Refused(7);
-    }
-    if count == 256 {
-        return Answer::Refused(8);
-    }
-    ids[count] = id;
-    numbers[count] = number + 1;
-    parents[count] = above;
-    Answer::Placed(count as u8)
+    append(ids, numbers, parents, count, id, above)
 }
 
 // The count after an answer.

@@ -8,6 +8,7 @@ ghost use Rattle.marks.specs.Marks.{size};
 ghost use Rattle.runs.specs.Run.{Run, ran};
 ghost use Rattle.runs.specs.Tried.{Tried, tried};
 ghost use Rattle.blocks.specs.declared.BlockTable.{BlockTable};
+ghost use Rattle.block_index.specs.Index.{Indexed};
 ghost use Rattle.growing.specs.Growing.{grown, turn-of};
 use blocks::Answer;
 use marks::End;
@@ -69,21 +70,44 @@ pub fn add(
     }
 }
 
+// The same beside slots of the ids, which spare the searches.
+fn grow(
+    ids: &mut [u32; 256],
+    numbers: &mut [u32; 256],
+    parents: &mut [u8; 256],
+    slots: &mut [u8; 1024],
+    blocks: usize,
+    fields: &[u8],
+) -> Took
+    requires { ⌜ Indexed (now ids) (now slots) blocks × (length (now fields) ≡ 8) ⌝ }
+    ensures { λ r. ⌜ _≡_ {A = Tried BlockTable} (record { state = record { ids = now (ids .exit); numbers = now (numbers .exit); parents = now (parents .exit); count = r .blocks }; turn = r .turn }) (tried grown (record { ids = now (ids .entry); numbers = now (numbers .entry); parents = now (parents .entry); count = blocks }) Bk (now (fields .entry))) ⌝ }
+    ensures { λ r. ⌜ Indexed (now (ids .exit)) (now (slots .exit)) (r .blocks) ⌝ }
+{
+    let id = marks::word(fields, 0);
+    let parent = marks::word(fields, 4);
+    let answer = block_index::add(ids, numbers, parents, slots, blocks, id, parent);
+    Took {
+        turn: turn(answer),
+        blocks: blocks::counted(blocks, answer),
+    }
+}
+
 // A record in the second turn.
 fn take(
     ids: &mut [u32; 256],
     numbers: &mut [u32; 256],
     parents: &mut [u8; 256],
+    slots: &mut [u8; 1024],
     blocks: usize,
     mark: Mark,
     fields: &[u8],
 ) -> Took
-    requires { ⌜ (blocks ≤ 256) × (length (now fields) ≡ size mark) ⌝ }
+    requires { ⌜ Indexed (now ids) (now slots) blocks × (length (now fields) ≡ size mark) ⌝ }
     ensures { λ r. ⌜ _≡_ {A = Tried BlockTable} (record { state = record { ids = now (ids .exit); numbers = now (numbers .exit); parents = now (parents .exit); count = r .blocks }; turn = r .turn }) (tried grown (record { ids = now (ids .entry); numbers = now (numbers .entry); parents = now (parents .entry); count = blocks }) mark (now (fields .entry))) ⌝ }
-    ensures { λ r. ⌜ r .blocks ≤ 256 ⌝ }
+    ensures { λ r. ⌜ Indexed (now (ids .exit)) (now (slots .exit)) (r .blocks) ⌝ }
 {
     match mark {
-        Mark::Bk => add(ids, numbers, parents, blocks, fields),
+        Mark::Bk => grow(ids, numbers, parents, slots, blocks, fields),
         Mark::Op => over(End::Left, blocks),
         Mark::Vt => over(End::Refused(18), blocks),
         Mark::Rt => over(End::Refused(18), blocks),
@@ -100,10 +124,12 @@ pub fn run(
     count: usize,
     bytes: &[u8],
 ) -> Grown
-    requires { ⌜ count ≤ 256 ⌝ }
+    requires { ⌜ (count ≤ 256) × (length (now ids) ≡ 256) ⌝ }
     ensures { λ r. ⌜ _≡_ {A = Run BlockTable} (record { state = record { ids = now (ids .exit); numbers = now (numbers .exit); parents = now (parents .exit); count = r .blocks }; count = r .count; rest = drop (r .at) (now (bytes .entry)); end = r .end }) (ran grown (record { ids = now (ids .entry); numbers = now (numbers .entry); parents = now (parents .entry); count = count }) (now (bytes .entry))) ⌝ }
     ensures { λ r. ⌜ (r .blocks ≤ 256) × (r .count ≤ r .at) × (r .at ≤ length (now (bytes .entry))) ⌝ }
 {
+    let mut slots = [0u8; 1024];
+    block_index::index(ids, &mut slots, count);
     let mut blocks = count;
     let mut taken = 0u64;
     let mut at = 0;
@@ -118,7 +144,7 @@ pub fn run(
             };
         };
         let fields = marks::fields(part, mark);
-        let took = take(ids, numbers, parents, blocks, mark, fields);
+        let took = take(ids, numbers, parents, &mut slots, blocks, mark, fields);
         let turn = took.turn;
         blocks = took.blocks;
         match turn {

@@ -4,7 +4,7 @@ use mathlib.Core.List.{List, [], _∷_}
 use mathlib.Core.Path.{_≡_, refl, sym, ap, subst, _∙_}
 use Prim.Native.Nat.{ℕ, _-_, _≤_}
 use native.Mathlib.Omega.{arith}
-use lib.ListN.{length, take, drop, set, replicate, length-drop}
+use lib.ListN.{length, take, drop, set, replicate, length-drop, length-set, length-replicate}
 use Rattle.columns.specs.Lists.{padded}
 use Rattle.weights.specs.Weights.{plus}
 use Rattle.voter_set.specs.declared.VoterSet.{VoterSet}
@@ -125,9 +125,11 @@ module _ (m : ℕ) (v : VoterSet) (o : BlockTable) (stands : Stands Kept (growin
     blocks-stop z f =
         stops-at m n (growing v o) (laid (growing v u)) bs (drop a bs) z (blocks-refused v o u (stands .2) n bs (drop a bs) z (same (Refused z) f)) k sum r
 
-pub opened-few : (a b : ℕ) (t : BlockTable) → t ≡ table.opened a b → t .count ≤ 256
+pub opened-room : (a b : ℕ) (t : BlockTable) → t ≡ table.opened a b → (t .count ≤ 256) × (length (t .ids) ≡ 256)
 unfolding table.opened
-opened-few a b t e = subst (λ (u : BlockTable). u .count ≤ 256) (sym e) (omega arith)
+opened-room a b t e =
+    subst (λ (u : BlockTable). (u .count ≤ 256) × (length (u .ids) ≡ 256)) (sym e)
+    (omega arith, length-set (replicate 256 0) 0 a ∙ length-replicate {A = ℕ} 256 0)
 
 -- the Rt
 module _ (m : ℕ) (p : Pairs) (bs : List ℕ) (is-rt : read bs ≡ is.Whole Rt) (fs : List ℕ) (all : fs ≡ fields Rt bs) (made : NewVoterSet)

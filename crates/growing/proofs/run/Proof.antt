@@ -1,111 +1,116 @@
 use borrow.Author.Needs.{needs}
 use mathlib.Core.Path.{sym, ap, _∙_}
 use native.Mathlib.Nat.{le-refl}
-use Prim.Native.Nat.{_-_, _≤_}
-use lib.ListN.{length}
-use borrow.Author.Needs.{needs}
+use Prim.Native.Nat.{ℕ, _-_}
+use lib.ListN.{length, length-replicate}
 use Rattle.marks.proofs.Readings.{whole-means}
 use Rattle.runs.proofs.Turns.{whole-fields}
 use Rattle.runs.proofs.Loops.{Going, going-start, tried-goes, going-on, going-over, going-ends, going-fits}
+use Rattle.block_index.specs.Index.{Indexed}
 use Rattle.growing.specs.Growing.{grown}
 use Rattle.growing.proofs.run.Statement.{statement}
 use Rattle.growing.proofs.run.Tie as tie
 use Rattle.growing.proofs.run.Reads as reads
 use Rattle.growing.proofs.run.Lts as lts
+use Rattle.block_index.proofs.index.Reads as index-reads
 use Rattle.growing.proofs.take.Reads as take-reads
 use Rattle.marks.proofs.ending.Reads as ending-reads
 use Rattle.marks.proofs.fields.Reads as fields-reads
 use Rattle.marks.proofs.read.Reads as read-reads
 
 abbrev Inv-loop : tie.InvT-loop
-Inv-loop ids₀ numbers₀ parents₀ count bytes blocks₀ taken₀ at₀ ids numbers parents blocks taken at =
+Inv-loop ids₀ numbers₀ parents₀ count bytes slots₀ blocks₀ taken₀ at₀ ids numbers parents slots blocks taken at =
     Going grown (record { ids = ids₀; numbers = numbers₀; parents = parents₀; count = count }) bytes
     (record { ids = ids; numbers = numbers; parents = parents; count = blocks }) taken at
-    × (blocks ≤ 256)
+    × Indexed ids slots blocks
 
 abbrev μ-loop : tie.MeasureT-loop
-μ-loop ids₀ numbers₀ parents₀ count bytes blocks₀ taken₀ at₀ ids numbers parents blocks taken at = length bytes - at
+μ-loop ids₀ numbers₀ parents₀ count bytes slots₀ blocks₀ taken₀ at₀ ids numbers parents slots blocks taken at = length bytes - at
 
--- src/lib.rt:110:5
+-- src/lib.rt:132:5
+index-requires : tie.Need-index-requires Inv-loop μ-loop
+index-requires c κs = (c .before .before .before .pre .0, c .before .before .before .pre .1, length-replicate {A = ℕ} 1024 0)
+
+-- src/lib.rt:136:5
 loop-holds : tie.Need-loop-holds Inv-loop μ-loop
-loop-holds c = (going-start _ _ _, c .before .pre)
+loop-holds c = (going-start _ _ _, c .index .ensures .1)
 
--- src/lib.rt:111:20
+-- src/lib.rt:137:20
 sub-part : tie.Need-sub-part Inv-loop μ-loop
 sub-part c = c .loop .inv .0 .within
 
--- src/lib.rt:111:20
+-- src/lib.rt:137:20
 part-part-start : tie.Need-part-part-start Inv-loop μ-loop
 part-part-start c = c .loop .inv .0 .within
 
--- src/lib.rt:111:20
+-- src/lib.rt:137:20
 part-part-end : tie.Need-part-part-end Inv-loop μ-loop
 part-part-end c = le-refl _
 
--- src/lib.rt:112:35
+-- src/lib.rt:138:35
 read-requires : tie.Need-read-requires Inv-loop μ-loop
 read-requires c κs = search needs
 
--- src/lib.rt:112:27
+-- src/lib.rt:138:27
 enum-known-mark : tie.Need-enum-known-mark Inv-loop μ-loop
 enum-known-mark c = search needs
 
--- src/lib.rt:117:22
+-- src/lib.rt:143:22
 ending-requires : tie.Need-ending-requires Inv-loop μ-loop
 ending-requires c κs = search needs
 
--- src/lib.rt:113:13
+-- src/lib.rt:139:13
 returns : tie.Need-returns Inv-loop μ-loop
 returns c = (
   going-ends grown _ _ _ _ _ _ _ (c .before .before .before .before .loop .inv .0) (c .before .before .read .ensures) (c .before .match .keys2) (c .ending .ensures),
-  (c .before .before .before .before .loop .inv .1, c .before .before .before .before .loop .inv .0 .fewer, c .before .before .before .before .loop .inv .0 .within),
+  (c .before .before .before .before .loop .inv .1 .few, c .before .before .before .before .loop .inv .0 .fewer, c .before .before .before .before .loop .inv .0 .within),
 )
 
--- src/lib.rt:120:13
+-- src/lib.rt:146:13
 fields-requires : tie.Need-fields-requires Inv-loop μ-loop
 fields-requires c κs = whole-means _ _ (sym (c .before .before .before .read .ensures) ∙ c .before .mark .given .1) .1
 
--- src/lib.rt:121:13
+-- src/lib.rt:147:13
 take-requires : tie.Need-take-requires Inv-loop μ-loop
-take-requires c κs = (c .before .before .before .before .before .before .before .before .before .loop .inv .1, ap length (c .before .before .before .fields .ensures) ∙ whole-fields _ _ (sym (c .before .before .before .before .before .before .before .read .ensures) ∙ c .before .before .before .before .before .mark .given .1))
+take-requires c κs = (c .before .before .before .before .before .before .before .before .before .before .loop .inv .1, ap length (c .before .before .before .before .fields .ensures) ∙ whole-fields _ _ (sym (c .before .before .before .before .before .before .before .before .read .ensures) ∙ c .before .before .before .before .before .before .mark .given .1))
 
--- src/lib.rt:126:25
+-- src/lib.rt:152:25
 enum-told : tie.Need-enum-told Inv-loop μ-loop
 enum-told c = search needs
 
--- src/lib.rt:126:25
+-- src/lib.rt:152:25
 add-taken : tie.Need-add-taken Inv-loop μ-loop
-add-taken c = going-fits grown _ _ _ _ _ _ _ (c .before .before .before .before .before .before .before .before .before .before .before .before .loop .inv .0) (sym (c .before .before .before .before .before .before .before .before .before .before .read .ensures) ∙ c .before .before .before .before .before .before .before .before .mark .given .1) (c .before .before .before .before .before .before .fields .ensures) (c .before .before .before .before .before .before .before .before .before .before .before .before .before .before .good .1 .1 .1 .1 .0 .0) .count
+add-taken c = going-fits grown _ _ _ _ _ _ _ (c .before .before .before .before .before .before .before .before .before .before .before .before .before .loop .inv .0) (sym (c .before .before .before .before .before .before .before .before .before .before .before .read .ensures) ∙ c .before .before .before .before .before .before .before .before .before .mark .given .1) (c .before .before .before .before .before .before .before .fields .ensures) (c .before .before .before .before .before .before .before .before .before .before .before .before .before .before .before .before .before .before .good .1 .1 .1 .1 .0 .0) .count
 
--- src/lib.rt:127:22
+-- src/lib.rt:153:22
 add-at : tie.Need-add-at Inv-loop μ-loop
-add-at c = going-fits grown _ _ _ _ _ _ _ (c .before .before .before .before .before .before .before .before .before .before .before .before .loop .inv .0) (sym (c .before .before .before .before .before .before .before .before .before .before .read .ensures) ∙ c .before .before .before .before .before .before .before .before .mark .given .1) (c .before .before .before .before .before .before .fields .ensures) (c .before .before .before .before .before .before .before .before .before .before .before .before .before .before .good .1 .1 .1 .1 .0 .0) .mark
+add-at c = going-fits grown _ _ _ _ _ _ _ (c .before .before .before .before .before .before .before .before .before .before .before .before .before .loop .inv .0) (sym (c .before .before .before .before .before .before .before .before .before .before .before .read .ensures) ∙ c .before .before .before .before .before .before .before .before .before .mark .given .1) (c .before .before .before .before .before .before .before .fields .ensures) (c .before .before .before .before .before .before .before .before .before .before .before .before .before .before .before .before .before .before .good .1 .1 .1 .1 .0 .0) .mark
 
--- src/lib.rt:127:22
+-- src/lib.rt:153:22
 add-at-2 : tie.Need-add-at-2 Inv-loop μ-loop
-add-at-2 c = going-fits grown _ _ _ _ _ _ _ (c .before .before .before .before .before .before .before .before .before .before .before .before .loop .inv .0) (sym (c .before .before .before .before .before .before .before .before .before .before .read .ensures) ∙ c .before .before .before .before .before .before .before .before .mark .given .1) (c .before .before .before .before .before .before .fields .ensures) (c .before .before .before .before .before .before .before .before .before .before .before .before .before .before .good .1 .1 .1 .1 .0 .0) .place
+add-at-2 c = going-fits grown _ _ _ _ _ _ _ (c .before .before .before .before .before .before .before .before .before .before .before .before .before .loop .inv .0) (sym (c .before .before .before .before .before .before .before .before .before .before .before .read .ensures) ∙ c .before .before .before .before .before .before .before .before .before .mark .given .1) (c .before .before .before .before .before .before .before .fields .ensures) (c .before .before .before .before .before .before .before .before .before .before .before .before .before .before .before .before .before .before .good .1 .1 .1 .1 .0 .0) .place
 
--- src/lib.rt:110:5
+-- src/lib.rt:136:5
 loop-less : tie.Need-loop-less Inv-loop μ-loop
-loop-less c = going-fits grown _ _ _ _ _ _ _ (c .before .before .before .before .before .before .before .before .before .before .before .before .loop .inv .0) (sym (c .before .before .before .before .before .before .before .before .before .before .read .ensures) ∙ c .before .before .before .before .before .before .before .before .mark .given .1) (c .before .before .before .before .before .before .fields .ensures) (c .before .before .before .before .before .before .before .before .before .before .before .before .before .before .good .1 .1 .1 .1 .0 .0) .less
+loop-less c = going-fits grown _ _ _ _ _ _ _ (c .before .before .before .before .before .before .before .before .before .before .before .before .before .loop .inv .0) (sym (c .before .before .before .before .before .before .before .before .before .before .before .read .ensures) ∙ c .before .before .before .before .before .before .before .before .before .mark .given .1) (c .before .before .before .before .before .before .before .fields .ensures) (c .before .before .before .before .before .before .before .before .before .before .before .before .before .before .before .before .before .before .good .1 .1 .1 .1 .0 .0) .less
 
--- src/lib.rt:110:5
+-- src/lib.rt:136:5
 loop-again : tie.Need-loop-again Inv-loop μ-loop
 loop-again c = (
-  going-on grown _ _ _ _ _ _ _ _ (c .before .before .before .before .before .before .before .before .before .before .before .before .loop .inv .0) (sym (c .before .before .before .before .before .before .before .before .before .before .read .ensures) ∙ c .before .before .before .before .before .before .before .before .mark .given .1) (c .before .before .before .before .before .before .fields .ensures)
+  going-on grown _ _ _ _ _ _ _ _ (c .before .before .before .before .before .before .before .before .before .before .before .before .before .loop .inv .0) (sym (c .before .before .before .before .before .before .before .before .before .before .before .read .ensures) ∙ c .before .before .before .before .before .before .before .before .before .mark .given .1) (c .before .before .before .before .before .before .before .fields .ensures)
       (tried-goes grown _ _ _ _ _ (c .before .before .take .ensures .0) (c .enum-told .given .1)),
   c .before .before .take .ensures .1,
 )
 
--- src/lib.rt:129:24
+-- src/lib.rt:155:24
 enum-known-turn : tie.Need-enum-known-turn Inv-loop μ-loop
 enum-known-turn c = search needs
 
--- src/lib.rt:130:17
+-- src/lib.rt:156:17
 returns-2 : tie.Need-returns-2 Inv-loop μ-loop
 returns-2 c = (
-  going-over grown _ _ _ _ _ _ _ _ _ _ (c .before .before .before .before .before .before .before .before .before .before .before .before .before .loop .inv .0) (sym (c .before .before .before .before .before .before .before .before .before .before .before .read .ensures) ∙ c .before .before .before .before .before .before .before .before .before .mark .given .1) (c .before .before .before .before .before .before .before .fields .ensures) (c .before .before .before .take .ensures .0) (c .before .turn .given .1),
-  (c .before .before .before .take .ensures .1, c .before .before .before .before .before .before .before .before .before .before .before .before .before .loop .inv .0 .fewer, c .before .before .before .before .before .before .before .before .before .before .before .before .before .loop .inv .0 .within),
+  going-over grown _ _ _ _ _ _ _ _ _ _ (c .before .before .before .before .before .before .before .before .before .before .before .before .before .before .loop .inv .0) (sym (c .before .before .before .before .before .before .before .before .before .before .before .before .read .ensures) ∙ c .before .before .before .before .before .before .before .before .before .before .mark .given .1) (c .before .before .before .before .before .before .before .before .fields .ensures) (c .before .before .before .take .ensures .0) (c .before .turn .given .1),
+  (c .before .before .before .take .ensures .1 .few, c .before .before .before .before .before .before .before .before .before .before .before .before .before .before .loop .inv .0 .fewer, c .before .before .before .before .before .before .before .before .before .before .before .before .before .before .loop .inv .0 .within),
 )
 
 pub run-spec : {M : Type 1} → statement M
@@ -114,6 +119,7 @@ run-spec =
     (tie.spec
     Inv-loop
     μ-loop
+    index-requires
     loop-holds
     sub-part
     part-part-start

@@ -7,82 +7,82 @@ use Rattle.growing.proofs.take.Statement.{statement}
 use Rattle.growing.proofs.take.Tie as tie
 use Rattle.growing.proofs.take.Reads as reads
 use Rattle.growing.proofs.take.Lts as lts
-use Rattle.growing.proofs.add.Reads as add-reads
+use Rattle.growing.proofs.grow.Reads as grow-reads
 use Rattle.growing.proofs.over.Reads as over-reads
 
--- src/lib.rt:86:25
+-- src/lib.rt:110:26
 enum-told : tie.Need-enum-told
 enum-told c = search needs
 
--- src/lib.rt:86:21
-add-requires : tie.Need-add-requires
-add-requires c κs = (c .before .before .before .before .before .before .pre .0, c .before .before .before .before .before .before .pre .1 ∙ ap size (c .before .before .before .enum-told .given .1))
+-- src/lib.rt:110:21
+grow-requires : tie.Need-grow-requires
+grow-requires c κs = (c .before .before .before .before .before .before .before .pre .0, c .before .before .before .before .before .before .before .pre .1 ∙ ap size (c .before .before .before .before .enum-told .given .1))
 
--- src/lib.rt:87:26
+-- src/lib.rt:111:26
 enum-told-2 : tie.Need-enum-told-2
 enum-told-2 c = search needs
 
--- src/lib.rt:87:21
+-- src/lib.rt:111:21
 over-requires : tie.Need-over-requires
 over-requires c κs = search needs
 
--- src/lib.rt:88:26
+-- src/lib.rt:112:26
 enum-told-3 : tie.Need-enum-told-3
 enum-told-3 c = search needs
 
--- src/lib.rt:88:21
+-- src/lib.rt:112:21
 over-requires-2 : tie.Need-over-requires-2
 over-requires-2 c κs = search needs
 
--- src/lib.rt:89:26
+-- src/lib.rt:113:26
 enum-told-4 : tie.Need-enum-told-4
 enum-told-4 c = search needs
 
--- src/lib.rt:89:21
+-- src/lib.rt:113:21
 over-requires-3 : tie.Need-over-requires-3
 over-requires-3 c κs = search needs
 
--- src/lib.rt:90:26
+-- src/lib.rt:114:26
 enum-told-5 : tie.Need-enum-told-5
 enum-told-5 c = search needs
 
--- src/lib.rt:90:21
+-- src/lib.rt:114:21
 over-requires-4 : tie.Need-over-requires-4
 over-requires-4 c κs = search needs
 
--- src/lib.rt:91:26
+-- src/lib.rt:115:26
 enum-told-6 : tie.Need-enum-told-6
 enum-told-6 c = search needs
 
--- src/lib.rt:91:21
+-- src/lib.rt:115:21
 over-requires-5 : tie.Need-over-requires-5
 over-requires-5 c κs = search needs
 
--- src/lib.rt:73:1
+-- src/lib.rt:96:1
 returns : tie.Need-returns
-returns c = (rw (c .before .before .before .before .enum-told .given .1) (c .add .ensures .0), c .add .ensures .1)
+returns c = (rw (c .before .before .before .before .before .enum-told .given .1) (c .grow .ensures .0), c .grow .ensures .1)
 
--- src/lib.rt:73:1
+-- src/lib.rt:96:1
 returns-2 : tie.Need-returns-2
 unfolding tried grown
 returns-2 c = (rw (c .over .ensures, c .before .enum-told2 .given .1), rw (c .over .ensures) (c .before .before .before .before .pre .0))
 
--- src/lib.rt:73:1
+-- src/lib.rt:96:1
 returns-3 : tie.Need-returns-3
 unfolding tried grown
 returns-3 c = (rw (c .over2 .ensures, c .before .enum-told3 .given .1), rw (c .over2 .ensures) (c .before .before .before .before .pre .0))
 
--- src/lib.rt:73:1
+-- src/lib.rt:96:1
 returns-4 : tie.Need-returns-4
 unfolding tried grown
 returns-4 c = (rw (c .over3 .ensures, c .before .enum-told4 .given .1), rw (c .over3 .ensures) (c .before .before .before .before .pre .0))
 
--- src/lib.rt:73:1
+-- src/lib.rt:96:1
 returns-5 : tie.Need-returns-5
 unfolding tried grown
 returns-5 c = (rw (c .over4 .ensures, c .before .enum-told5 .given .1), rw (c .over4 .ensures) (c .before .before .before .before .pre .0))
 
--- src/lib.rt:73:1
+-- src/lib.rt:96:1
 returns-6 : tie.Need-returns-6
 unfolding tried grown
 returns-6 c = (rw (c .over5 .ensures, c .before .enum-told6 .given .1), rw (c .over5 .ensures) (c .before .before .before .before .pre .0))
@@ -92,7 +92,7 @@ take-spec =
     tie.close
     (tie.spec
     enum-told
-    add-requires
+    grow-requires
     enum-told-2
     over-requires
     enum-told-3

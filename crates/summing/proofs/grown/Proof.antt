@@ -1,4 +1,4 @@
-use Rattle.summing.proofs.Told.{opened-few, blocks-ready, blocks-on, blocks-end, blocks-stop}
+use Rattle.summing.proofs.Told.{opened-room, blocks-ready, blocks-on, blocks-end, blocks-stop}
 use borrow.Author.Needs.{needs}
 use Rattle.summing.proofs.grown.Statement.{statement}
 use Rattle.summing.proofs.grown.Tie as tie
@@ -16,7 +16,7 @@ new-requires c κs = search needs
 
 -- src/lib.rt:247:9
 run-requires : tie.Need-run-requires
-run-requires c κs = opened-few _ _ _ (c .before .before .before .before .before .before .new .ensures)
+run-requires c κs = opened-room _ _ _ (c .before .before .before .before .before .before .new .ensures)
 
 -- src/lib.rt:250:9
 more-requires : tie.Need-more-requires
