@@ -895,3 +895,12 @@ pub fn tiny(blocks: usize, length: usize, mut each: impl FnMut(&[u8])) {
         }
     }
 }
+
+/// One voter of each total up to 1,001, so all around every multiple of 3 up to 1,000; around every
+/// power of two from there on; and the last nine. The lines of an opened round say what its total needs.
+pub fn totals() -> Vec<Vec<u8>> {
+    let mut totals: Vec<u64> = (0..=1001).collect();
+    totals.extend((10..64).flat_map(|power| [(1u64 << power) - 1, 1 << power, (1 << power) + 1]));
+    totals.extend(u64::MAX - 8..=u64::MAX);
+    totals.into_iter().map(|total| bytes(&[Vt(1, total), Rt(10, 0), Op(7, 10)])).collect()
+}

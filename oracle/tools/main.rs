@@ -29,6 +29,7 @@ struct Source {
     seed: u64,
     count: u64,
     tiny: Option<(usize, usize)>,
+    totals: bool,
 }
 
 const BATCH: usize = 2000;
@@ -36,6 +37,10 @@ const BATCH: usize = 2000;
 impl Source {
     /// Calls `each` with batches and the number of the first journal, until it says stop.
     fn batches(&self, mut each: impl FnMut(u64, Vec<Vec<u8>>) -> bool) {
+        if self.totals {
+            each(0, generate::totals());
+            return;
+        }
         if let Some((blocks, length)) = self.tiny {
             let (mut batch, mut first, mut go) = (Vec::new(), 0, true);
             generate::tiny(blocks, length, |journal| {
@@ -71,6 +76,7 @@ impl Source {
     }
     fn name(&self, index: u64) -> String {
         match self.tiny {
+            _ if self.totals => format!("journal {index} of the totals"),
             Some((blocks, length)) => format!("tiny journal {index} of {blocks} blocks and {length} votes"),
             None => format!(
                 "journal {index} (class {}, seed {}, index {})",
@@ -96,7 +102,7 @@ struct Options {
 
 fn usage() -> ! {
     eprintln!(
-        "usage: journals [--class C] [--seed S] [--count N] [--tiny BLOCKS LENGTH]
+        "usage: journals [--class C] [--seed S] [--count N] [--tiny BLOCKS LENGTH | --totals]
        compare [the same] [--answers | --trace | --trace-every N] [--pipe] [--keep FILE] PROGRAM [WORDS]
        definitions [the same as journals] [--fault NAME] | definitions --bite
        faults ORACLE-FAULTY LIST
@@ -116,6 +122,7 @@ fn options(words: &[String]) -> Options {
             seed: 1,
             count: 100_000,
             tiny: None,
+            totals: false,
         },
         oracle: "oracle/out/oracle".into(),
         telling: Vec::new(),
@@ -141,6 +148,7 @@ fn options(words: &[String]) -> Options {
                 let mut number = || value().parse().unwrap_or_else(|_| usage());
                 out.source.tiny = Some((number(), number()));
             }
+            "--totals" => out.source.totals = true,
             "--oracle" => out.oracle = value(),
             "--answers" | "--trace" => out.telling = vec![word],
             "--trace-every" => out.telling = vec![word, value()],

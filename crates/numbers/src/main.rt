@@ -126,6 +126,7 @@ fn bit(name: &[u8], set: VoterSet, id: u32, phase: Phase) {
 }
 
 fn thresholds() {
+    threshold(0);
     threshold(1);
     threshold(2);
     threshold(3);
@@ -134,6 +135,7 @@ fn thresholds() {
     threshold(6);
     threshold(7);
     threshold(10);
+    threshold(MOST);
 }
 
 fn lists() {
