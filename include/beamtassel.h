@@ -99,8 +99,10 @@ uint64_t beamtassel_print(const uint8_t *journal, size_t journal_length, uint8_t
 uint64_t beamtassel_finalizing(const uint8_t *journal, size_t journal_length, uint8_t *out, size_t out_length);
 
 /*
- * Replays two journals of one round and writes the weight of the voters whose first precommits in them differ in block: 8 bytes,
- * little-endian. A voter who is silent in either adds nothing.
+ * Replays two journals of one round and writes the weight of the voters, each once, who precommitted twice in either of them, another
+ * signature for the same block included, or who precommitted in both for blocks that differ in id: 8 bytes, little-endian. A voter silent in
+ * both adds nothing, and neither does one heard once in one of them and not in the other. A journal beside itself gives the weight of the
+ * voters who precommitted twice in it.
  * Refuses, in this order: the first journal's own refusal; the second's; 16; 14.
  */
 uint64_t beamtassel_two_views(const uint8_t *first, size_t first_length, const uint8_t *second, size_t second_length, uint8_t *out,

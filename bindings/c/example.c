@@ -1,5 +1,5 @@
-/* Replays a journal from standard input: its lines, then the same from the numbers, the finalizing precommits, and the journal beside
- * itself. `example < JOURNAL` */
+/* Replays a journal from standard input: its lines, then the same from the numbers, the finalizing precommits, and the weight of the voters
+ * who precommitted twice, which is what the journal beside itself gives. `example < JOURNAL` */
 #include <inttypes.h>
 #include <stdio.h>
 #include <stdlib.h>
@@ -81,9 +81,12 @@ int main(void)
 
     uint8_t weight[BEAMTASSEL_WEIGHT_BYTES];
     size = beamtassel_two_views(journal, length, journal, length, weight, sizeof weight);
-    if (size < BEAMTASSEL_REFUSED)
-        printf("differing from itself %d\n", weight[0]);
-    else
+    if (size < BEAMTASSEL_REFUSED) {
+        uint64_t twice = 0;
+        for (int k = BEAMTASSEL_WEIGHT_BYTES - 1; k >= 0; k--)
+            twice = twice << 8 | weight[k];
+        printf("precommitted twice %" PRIu64 "\n", twice);
+    } else
         printf("two views refused %" PRIu64 "\n", size - BEAMTASSEL_REFUSED);
 
     /* A buffer that is a byte short is refused and left as it was. */

@@ -271,8 +271,9 @@ pub fn finalizing(journal: &[u8]) -> Result<Vec<u8>, Refusal> {
     Ok(out[..size].to_vec())
 }
 
-/// The weight of the voters whose first precommits differ in block between two journals of one round. A voter who is silent in either
-/// adds nothing.
+/// The weight of the voters, each once, who precommitted twice in either of two journals of one round, another signature for the same block
+/// included, or who precommitted in both for blocks that differ in id. A voter silent in both adds nothing, and neither does one heard once in
+/// one of them and not in the other. A journal beside itself gives the weight of the voters who precommitted twice in it.
 ///
 /// # Errors
 /// The first journal's own refusal; the second's; [`Refusal::NOT_ONE_ROUND`], in this order.

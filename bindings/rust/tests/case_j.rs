@@ -94,8 +94,40 @@ fn two_views_of_it() {
     assert_eq!(two_views(&journal, &other), Ok(2));
     assert_eq!(two_views(&other, &journal), Ok(2));
     assert_eq!(two_views(&journal, &journal), Ok(0));
-    // A second precommit changes nothing: the first ones count.
-    assert_eq!(two_views(&journal, &[journal.clone(), precommit(3, 13, 2)].concat()), Ok(0));
+    // A voter who precommitted twice counts, once, in either view or in both, whatever the other has of it.
+    let twice = [journal.clone(), precommit(3, 13, 2)].concat();
+    assert_eq!(two_views(&journal, &twice), Ok(1));
+    assert_eq!(two_views(&twice, &journal), Ok(1));
+    assert_eq!(two_views(&twice, &twice), Ok(1));
+    assert_eq!(two_views(&twice, &other), Ok(2));
+    assert_eq!(two_views(&twice, &[opened(7), prevotes()].concat()), Ok(1));
+    // So does one under two signatures for one target, in one view; not one vote each for it, under different signatures.
+    let signed = [journal.clone(), vote(b"Pc", 3, 11, 1, 5)].concat();
+    assert_eq!(two_views(&journal, &signed), Ok(1));
+    let resigned = [opened(7), prevotes(), vote(b"Pc", 3, 11, 1, 5)].concat();
+    assert_eq!(two_views(&journal, &resigned), Ok(0));
+    // Prevotes never count.
+    assert_eq!(two_views(&journal, &[journal.clone(), prevote(3, 12, 2)].concat()), Ok(0));
+}
+
+// Document 02, R-2, each voter with a weight of its own: the same target, another, silent in one view, an equivocator beside the same first
+// target, an equivocator beside silence.
+#[test]
+fn five_kinds_in_one_sum() {
+    let opening = |votes: Vec<u8>| {
+        let mut journal: Vec<u8> =
+            [1, 2, 4, 8, 16].iter().zip(1..).flat_map(|(weight, id)| voter(id, *weight)).collect();
+        journal.extend([root(10, 0), block(11, 10), block(12, 10), open(7, 10), votes].concat());
+        journal
+    };
+    let pc = |voter, target| precommit(voter, target, 1);
+    let one = opening([pc(1, 11), pc(2, 11), pc(3, 12), pc(4, 11), pc(4, 12)].concat());
+    let other = opening([pc(1, 11), pc(2, 12), pc(4, 11), pc(5, 11), pc(5, 12)].concat());
+    assert_eq!(two_views(&one, &other), Ok(2 + 8 + 16));
+    assert_eq!(two_views(&other, &one), Ok(2 + 8 + 16));
+    assert_eq!(two_views(&one, &one), Ok(8));
+    assert_eq!(two_views(&other, &other), Ok(16));
+    assert_eq!(pairs::sums(&one, &other).first_targets, 2);
 }
 
 #[test]

@@ -71,18 +71,9 @@ fn finalizing_precommits() {
     assert!(0 < written);
 }
 
-// Document 01, "Two views", from a journal's bytes: each voter's first precommit.
-fn first_precommits(records: &[&[u8]]) -> HashMap<u32, u32> {
-    let mut firsts = HashMap::new();
-    for record in records.iter().filter(|record| record.starts_with(b"Pc")) {
-        firsts.entry(word(record, 2)).or_insert(word(record, 6));
-    }
-    firsts
-}
-
 #[test]
 fn two_views_of_votes_in_another_order() {
-    let (mut compared, mut differing) = (0, 0);
+    let (mut compared, mut differing, mut by_first_targets) = (0, 0, 0);
     for (journal, _) in recorded("answers.bin") {
         let Report::Round(round) = replay(&journal) else { continue };
         let (all, _) = records(&journal);
@@ -95,24 +86,16 @@ fn two_views_of_votes_in_another_order() {
             Report::Refused { refusal, .. } => assert_eq!(two_views(&journal, &other), Err(refusal)),
             Report::NoRound { .. } => panic!("the Op is there"),
             Report::Round(_) => {
-                let mut weights: HashMap<u32, u64> = HashMap::new();
-                for record in all.iter().filter(|record| record.starts_with(b"Vt")) {
-                    *weights.entry(word(record, 2)).or_default() +=
-                        u64::from_le_bytes(record[6..14].try_into().unwrap());
-                }
-                let (one, two) = (first_precommits(&all), first_precommits(&backwards));
-                let sum: u64 = one
-                    .iter()
-                    .filter(|(voter, target)| two.get(voter).is_some_and(|other| other != *target))
-                    .map(|(voter, _)| weights.get(voter).copied().unwrap_or(0))
-                    .sum();
-                assert!(sum <= round.total);
-                assert_eq!(two_views(&journal, &other), Ok(sum));
-                assert_eq!(two_views(&other, &journal), Ok(sum));
+                let sums = pairs::sums(&journal, &other);
+                assert_eq!(sums.total, round.total);
+                assert_eq!(two_views(&journal, &other), Ok(sums.sum));
+                assert_eq!(two_views(&other, &journal), Ok(sums.sum));
                 compared += 1;
-                differing += (0 < sum) as usize;
+                differing += (0 < sums.sum) as usize;
+                by_first_targets += (0 < sums.first_targets) as usize;
             }
         }
     }
     assert!(300 < compared && 30 < differing, "{compared} compared, {differing} differing");
+    assert!(by_first_targets < differing, "{by_first_targets} by first targets");
 }

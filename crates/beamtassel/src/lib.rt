@@ -85,7 +85,7 @@ fn put_weight(views: Views, out: &mut [u8]) -> u64
     }
 }
 
-// The weight of the voters whose first precommits differ between two journals of one round.
+// The weight of the voters who precommitted twice in either of two journals of one round, or in both for blocks that differ in id.
 #[no_mangle]
 pub extern "C" fn beamtassel_two_views(first: &[u8], second: &[u8], out: &mut [u8]) -> u64
     ensures { λ r. ⌜ _≡_ {A = Call} (record { number = r; out = now (out .exit) }) (two-views-call (now (first .entry)) (now (second .entry)) (now (out .entry))) ⌝ }

@@ -13,7 +13,7 @@ use Rattle.two_views.proofs.Agreements.{agree-means, means-agree}
 use Rattle.two_views.proofs.Named.{views-by-id}
 
 module _ (a b : Round) where
-  -- two views of one round: the weight of the voters whose first precommit targets differ in id
+  -- two views of one round: the weight of the voters who equivocated in precommits in either, or whose targets differ in id
   pub views-told : T (shaped a) → T (shaped b) → One a b
       → views a b ≡ Weight (two-views (voters a) (λ p. by-id (a .table .ids) (precommits a p)) (λ p. by-id (b .table .ids) (precommits b p)))
   unfolding views

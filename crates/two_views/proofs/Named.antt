@@ -11,8 +11,8 @@ use borrow.Author.Tests.{eq-eqb, ne-eqb}
 use Rattle.loops.proofs.Tests.{left-of, right-of, either}
 use Rattle.loops.proofs.Alls.{all-at}
 use Rattle.loops.proofs.Sums.{weigh-cong}
-use Rattle.grandpa.specs.Vote.{Vote, silent, once, twice}
-use Rattle.grandpa.specs.Views.{differ, differ-from, two-views}
+use Rattle.grandpa.specs.Vote.{Vote, silent, once, twice, equivocated}
+use Rattle.grandpa.specs.Views.{differ, differ-from, targets-differ, two-views}
 use Rattle.graph.specs.Shape.{Targets}
 use Rattle.blocks.specs.declared.BlockTable.{BlockTable}
 use Rattle.voter_set.specs.Good.{good}
@@ -74,13 +74,22 @@ module _ (ids : List ℕ) (n : ℕ) (distinct : (s x : ℕ) → s < n → x < n 
   from-by s (once x) h g = ap not (place-by s x h (g x refl))
   from-by s (twice x) h g = ap not (place-by s x h (g x refl))
 
+  targets-by : (v y : Vote) → ((z : ℕ) → Targets v z → z < n) → ((z : ℕ) → Targets y z → z < n)
+      → targets-differ v y ≡ targets-differ (by-id ids v) (by-id ids y)
+  targets-by silent y f g = refl
+  targets-by (once s) y f g = from-by s y (f s refl) g
+  targets-by (twice s) y f g = from-by s y (f s refl) g
+
+  equivocated-by : (v : Vote) → equivocated v ≡ equivocated (by-id ids v)
+  equivocated-by silent = refl
+  equivocated-by (once s) = refl
+  equivocated-by (twice s) = refl
+
   pub differ-by : (v y : Vote) → ((z : ℕ) → Targets v z → z < n) → ((z : ℕ) → Targets y z → z < n)
       → differ v y ≡ differ (by-id ids v) (by-id ids y)
-  differ-by silent y f g = refl
-  differ-by (once s) y f g = from-by s y (f s refl) g
-  differ-by (twice s) y f g = from-by s y (f s refl) g
+  differ-by v y f g = rw (equivocated-by v, equivocated-by y, targets-by v y f g)
 
--- the weight is that of the voters whose first targets differ in id
+-- the weight is that of the voters who equivocated in either view or whose targets differ in id
 pub views-by-id : (a b : Round) → T (shaped a) → T (shaped b) → One a b
     → two-views (voters a) (precommits a) (precommits b)
     ≡ two-views (voters a) (λ p. by-id (a .table .ids) (precommits a p)) (λ p. by-id (b .table .ids) (precommits b p))

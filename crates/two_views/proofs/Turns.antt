@@ -1,9 +1,9 @@
--- The ways through the code: one voter's targets, a turn of the sum, the comparison of two columns.
+-- The ways through the code: one voter's votes, a turn of the sum, the comparison of two columns.
 use mathlib.Core.Bool.{Bool, true, false, cond, not}
 use mathlib.Core.List.{List}
 use mathlib.Core.Path.{_≡_, refl, ap, _∙_}
 use mathlib.Core.Logic.{_≢_}
-use Prim.Native.Nat.{ℕ, zero, suc, _+_, _*_, _<_}
+use Prim.Native.Nat.{ℕ, zero, suc, _+_, _*_, _≤_, _<_}
 use native.Mathlib.Omega.{arith}
 use lib.Dec.{eqb}
 use lib.ListN.{length, getD}
@@ -12,35 +12,55 @@ use Rattle.loops.specs.All.{all}
 use Rattle.loops.proofs.Alls.{all-false}
 use Rattle.loops.proofs.Sums.{sum-none, sum-more}
 use Rattle.weights.specs.Weights.{plus}
-use Rattle.grandpa.specs.Vote.{Vote}
-use Rattle.grandpa.specs.Views.{differ, differ-from}
+use Rattle.grandpa.specs.Vote.{silent}
+use Rattle.grandpa.specs.Views.{differ}
 use Rattle.nodes.specs.Nodes.{col}
 use Rattle.tracker.specs.Recorded.{cast-of}
 use Rattle.two_views.specs.Views.{apart, differing, same}
 
 module _ (times places others theirs : List ℕ) where
-  -- one voter
-  pub apart-silent : (j : ℕ) → col times j ≡ 0 → apart times places others theirs j ≡ false
+  -- one voter: the votes at an index, by how often it voted
+  pub apart-twice : (j : ℕ) → 1 < col times j → apart times places others theirs j ≡ true
   unfolding apart
-  apart-silent j e = rw e
+  apart-twice j h = go (col times j) h
+    where
+      go : (n : ℕ) → 1 < n → differ (cast-of n (col places j)) (cast-of (col others j) (col theirs j)) ≡ true
+      go zero l = absurd (omega arith)
+      go (suc zero) l = absurd (omega arith)
+      go (suc (suc n)) l = refl
 
-  from-some : (s n b : ℕ) → n ≢ 0 → differ-from s (cast-of n b) ≡ not (eqb s b)
-  from-some s zero b h = absurd (h refl)
-  from-some s (suc zero) b h = refl
-  from-some s (suc (suc n)) b h = refl
-
-  some-from : (n b : ℕ) (v : Vote) → n ≢ 0 → differ (cast-of n b) v ≡ differ-from b v
-  some-from zero b v h = absurd (h refl)
-  some-from (suc zero) b v h = refl
-  some-from (suc (suc n)) b v h = refl
-
-  pub apart-unheard : (j : ℕ) → col times j ≢ 0 → col others j ≡ 0 → apart times places others theirs j ≡ false
+  pub apart-twice-there : (j : ℕ) → col times j ≤ 1 → 1 < col others j → apart times places others theirs j ≡ true
   unfolding apart
-  apart-unheard j h e = some-from (col times j) (col places j) _ h ∙ rw e
+  apart-twice-there j h k = go (col times j) (col others j) h k
+    where
+      go : (n m : ℕ) → n ≤ 1 → 1 < m → differ (cast-of n (col places j)) (cast-of m (col theirs j)) ≡ true
+      go n zero h l = absurd (omega arith)
+      go n (suc zero) h l = absurd (omega arith)
+      go zero (suc (suc m)) h l = refl
+      go (suc zero) (suc (suc m)) h l = refl
+      go (suc (suc n)) (suc (suc m)) h l = refl
 
-  pub apart-both : (j : ℕ) → col times j ≢ 0 → col others j ≢ 0 → apart times places others theirs j ≡ not (eqb (col places j) (col theirs j))
+  pub apart-silent : (j : ℕ) → col times j ≡ 0 → col others j ≤ 1 → apart times places others theirs j ≡ false
   unfolding apart
-  apart-both j h k = some-from (col times j) (col places j) _ h ∙ from-some (col places j) (col others j) (col theirs j) k
+  apart-silent j e h = rw e (go (col others j) h)
+    where
+      go : (m : ℕ) → m ≤ 1 → differ silent (cast-of m (col theirs j)) ≡ false
+      go zero l = refl
+      go (suc zero) l = refl
+      go (suc (suc m)) l = absurd (omega arith)
+
+  pub apart-unheard : (j : ℕ) → col times j ≤ 1 → col others j ≡ 0 → apart times places others theirs j ≡ false
+  unfolding apart
+  apart-unheard j h e = rw e (go (col times j) h)
+    where
+      go : (n : ℕ) → n ≤ 1 → differ (cast-of n (col places j)) silent ≡ false
+      go zero l = refl
+      go (suc zero) l = refl
+      go (suc (suc n)) l = absurd (omega arith)
+
+  pub apart-both : (j : ℕ) → col times j ≡ 1 → col others j ≡ 1 → apart times places others theirs j ≡ not (eqb (col places j) (col theirs j))
+  unfolding apart
+  apart-both j e f = rw (e, f)
 
   -- a turn of the sum
   module _ (weights : List ℕ) where

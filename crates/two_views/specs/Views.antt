@@ -1,6 +1,6 @@
--- Document 01, "Two views", and "Refusal numbers" 9 and 16: for two rounds of one round number, voters, base and block table,
--- the sum of weights of voters whose first recorded precommit targets differ in id. The tables are one and its ids are distinct,
--- so that targets differ in id where they differ in place.
+-- Document 02, R-2, and document 01, "Refusal numbers" 9 and 16: for two rounds of one round number, voters, base and block table, the
+-- sum of weights of voters who equivocated in precommits in either view, or have recorded precommits in both whose targets differ in id.
+-- The tables are one and its ids are distinct, so that targets differ in id where they differ in place.
 use mathlib.Core.Bool.{Bool, cond, _&&_}
 use mathlib.Core.List.{List}
 use Prim.Native.Nat.{ℕ, _+_, _*_, min}
@@ -22,7 +22,7 @@ use Rattle.round.specs.Shape.{shaped}
 use Rattle.two_views.specs.declared.Views.{Views}
 use Rattle.two_views.specs.declared.Views.the-variants.{Weight, Refused}
 
--- the first targets at an index differ
+-- the voter of an index counts: an equivocation in either view, or targets that differ
 unfoldable pub apart : List ℕ → List ℕ → List ℕ → List ℕ → ℕ → Bool
 apart times places others theirs j = differ (cast-of (col times j) (col places j)) (cast-of (col others j) (col theirs j))
 

@@ -1,4 +1,5 @@
-// Two views of one round: the weight of the voters whose first recorded precommits differ between them.
+// Two views of one round: the weight of the voters who equivocated in precommits in either, or whose recorded precommits differ in target
+// between them.
 ghost use mathlib.Core.Path.{_≡_};
 ghost use Prim.Native.Nat.{_≤_, _<_};
 ghost use Rattle.two_views.specs.Views.{apart, differing, same, same-voters, same-table, agree, views};
@@ -13,7 +14,8 @@ pub enum Views {
     Refused(u8),
 }
 
-// Whether the first targets at an index differ. A voter silent in either view adds nothing.
+// Whether the voter of an index counts: it equivocated in either view, or it has a vote in both and their targets differ. One vote in one
+// view and silence in the other is no evidence.
 fn differs<'a>(
     times: &'a [u8; 128],
     places: &'a [u8; 128],
@@ -24,6 +26,12 @@ fn differs<'a>(
     requires { ⌜ at < 128 ⌝ }
     ensures { λ r. ⌜ r ≡ apart (now (times .entry)) (now (places .entry)) (now (others .entry)) (now (theirs .entry)) at ⌝ }
 {
+    if times[at] > 1 {
+        return true;
+    }
+    if others[at] > 1 {
+        return true;
+    }
     if times[at] == 0 {
         return false;
     }
@@ -33,8 +41,8 @@ fn differs<'a>(
     places[at] != theirs[at]
 }
 
-// The weight of the voters whose first precommits differ, on lent columns; `others` and `theirs` are the times and places of the other
-// view. A voter's precommits stand at twice its place and one.
+// The weight of the voters whose precommits differ so, each once, on lent columns; `others` and `theirs` are the times and places of the
+// other view. A voter's precommits stand at twice its place and one.
 pub fn differing<'a>(
     times: &'a [u8; 128],
     places: &'a [u8; 128],
@@ -156,7 +164,8 @@ fn agree(one: Round, other: Round) -> bool
     same_table(table, other_table)
 }
 
-// The weight of the voters whose first precommits differ between two views of one round.
+// The weight of the voters who equivocated in precommits in either of two views of one round, or whose precommits differ in target
+// between them.
 pub fn two_views(one: Round, other: Round) -> Views
     ensures { λ r. ⌜ r ≡ views one other ⌝ }
 {

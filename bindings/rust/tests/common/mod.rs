@@ -1,6 +1,8 @@
 //! Journals to try, and the Rust's recorded answers.
 #![allow(dead_code)]
 
+pub mod pairs;
+
 use beamtassel::{Block, Report};
 use std::path::Path;
 
@@ -20,7 +22,7 @@ pub fn open(round: u64, base: u32) -> Vec<u8> {
     [&b"Op"[..], &round.to_le_bytes(), &base.to_le_bytes()].concat()
 }
 
-fn vote(mark: &[u8], voter: u32, target: u32, number: u32, signature: u64) -> Vec<u8> {
+pub fn vote(mark: &[u8], voter: u32, target: u32, number: u32, signature: u64) -> Vec<u8> {
     [mark, &voter.to_le_bytes(), &target.to_le_bytes(), &number.to_le_bytes(), &signature.to_le_bytes()].concat()
 }
 

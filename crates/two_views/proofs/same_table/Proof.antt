@@ -9,34 +9,34 @@ use Rattle.two_views.proofs.same_table.Lts as lts
 use Rattle.two_views.proofs.same_u32.Reads as same-u32-reads
 use Rattle.two_views.proofs.same_u8.Reads as same-u8-reads
 
--- src/lib.rt:124:9
+-- src/lib.rt:132:9
 returns : tie.Need-returns
 unfolding same-table
 returns c = rw (ne-eqb _ _ (c .if1 .taken))
 
--- src/lib.rt:126:9
+-- src/lib.rt:134:9
 same-u32-requires : tie.Need-same-u32-requires
 same-u32-requires c κs = search needs
 
--- src/lib.rt:127:9
+-- src/lib.rt:135:9
 returns-2 : tie.Need-returns-2
 unfolding same-table
 returns-2 c = rw (eq-eqb _ _ (c .before .before .before .before .before .before .before .before .if1 .left), sym (c .before .same-u32 .ensures) ∙ not-true _ (c .if2 .taken))
 
--- src/lib.rt:129:9
+-- src/lib.rt:137:9
 same-u32-requires-2 : tie.Need-same-u32-requires-2
 same-u32-requires-2 c κs = search needs
 
--- src/lib.rt:130:9
+-- src/lib.rt:138:9
 returns-3 : tie.Need-returns-3
 unfolding same-table
 returns-3 c = rw (eq-eqb _ _ (c .before .before .before .before .before .before .before .before .before .before .before .before .before .before .before .before .if1 .left), sym (c .before .before .before .before .before .before .before .before .before .same-u32 .ensures) ∙ not-false _ (c .before .before .before .before .before .before .before .before .if2 .left), sym (c .before .same-u322 .ensures) ∙ not-true _ (c .if3 .taken))
 
--- src/lib.rt:132:5
+-- src/lib.rt:140:5
 same-u8-requires : tie.Need-same-u8-requires
 same-u8-requires c κs = search needs
 
--- src/lib.rt:120:1
+-- src/lib.rt:128:1
 returns-4 : tie.Need-returns-4
 unfolding same-table
 returns-4 c = rw (eq-eqb _ _ (c .before .before .before .before .before .before .before .before .before .before .before .before .before .before .before .before .before .before .before .before .before .before .before .if1 .left), sym (c .before .before .before .before .before .before .before .before .before .before .before .before .before .before .before .before .same-u32 .ensures) ∙ not-false _ (c .before .before .before .before .before .before .before .before .before .before .before .before .before .before .before .if2 .left), sym (c .before .before .before .before .before .before .before .before .same-u322 .ensures) ∙ not-false _ (c .before .before .before .before .before .before .before .if3 .left)) (c .same-u8 .ensures)

@@ -21,47 +21,47 @@ Inv-loop xs ys k₀ k-end k = (k ≤ k-end) × (all k (λ i. eqb (getD xs i 0) (
 abbrev μ-loop : tie.MeasureT-loop
 μ-loop xs ys k₀ k-end k = k-end - k
 
--- src/lib.rt:91:9
+-- src/lib.rt:99:9
 returns : tie.Need-returns Inv-loop μ-loop
 returns c = sym (same-longer _ _ (c .if1 .taken))
 
--- src/lib.rt:93:5
+-- src/lib.rt:101:5
 loop-holds : tie.Need-loop-holds Inv-loop μ-loop
 loop-holds c = (omega arith, all-none _)
 
--- src/lib.rt:94:12
+-- src/lib.rt:102:12
 mul-if2 : tie.Need-mul-if2 Inv-loop μ-loop
 mul-if2 c = search needs
 
--- src/lib.rt:94:12
+-- src/lib.rt:102:12
 shared-slice-read-if2 : tie.Need-shared-slice-read-if2 Inv-loop μ-loop
 shared-slice-read-if2 c = search needs
 
--- src/lib.rt:94:21
+-- src/lib.rt:102:21
 mul-if2-2 : tie.Need-mul-if2-2 Inv-loop μ-loop
 mul-if2-2 c = search needs
 
--- src/lib.rt:94:21
+-- src/lib.rt:102:21
 shared-slice-read-if2-2 : tie.Need-shared-slice-read-if2-2 Inv-loop μ-loop
 shared-slice-read-if2-2 c = search needs
 
--- src/lib.rt:95:13
+-- src/lib.rt:103:13
 returns-2 : tie.Need-returns-2 Inv-loop μ-loop
 returns-2 c = sym (same-off _ _ (c .before .before .before .before .before .if1 .left) _ (c .before .before .before .loop-test .taken) (c .if2 .taken))
 
--- src/lib.rt:93:9
+-- src/lib.rt:101:9
 add-k : tie.Need-add-k Inv-loop μ-loop
 add-k c = search needs
 
--- src/lib.rt:93:5
+-- src/lib.rt:101:5
 loop-less : tie.Need-loop-less Inv-loop μ-loop
 loop-less c = search needs
 
--- src/lib.rt:93:5
+-- src/lib.rt:101:5
 loop-again : tie.Need-loop-again Inv-loop μ-loop
 loop-again c = (omega arith, all-more _ _ (c .before .before .before .before .loop .inv .1) (eq-eqb _ _ (c .if2 .left)))
 
--- src/lib.rt:87:1
+-- src/lib.rt:95:1
 returns-3 : tie.Need-returns-3 Inv-loop μ-loop
 returns-3 c = let e = le-antisymm (c .before .loop .inv .0) (c .loop-test .left) in sym (same-on _ _ (c .before .before .if1 .left) (subst (λ (n : ℕ). all n (λ i. eqb (getD (c .before .before .before .args .xs .now) i 0) (getD (c .before .before .before .args .ys .now) i 0)) ≡ true) e (c .before .loop .inv .1)))
 
