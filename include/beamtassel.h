@@ -103,6 +103,8 @@ uint64_t beamtassel_finalizing(const uint8_t *journal, size_t journal_length, ui
  * signature for the same block included, or who precommitted in both for blocks that differ in id: 8 bytes, little-endian. A voter silent in
  * both adds nothing, and neither does one heard once in one of them and not in the other. A journal beside itself gives the weight of the
  * voters who precommitted twice in it.
+ * Where each journal has a final block and neither block is the other or its ancestor, the weight is above the fault weight, (total - 1) / 3
+ * rounded down: it tells how much weight contradicted itself, and not who; a weight above the fault weight alone does not mean two final blocks.
  * Refuses, in this order: the first journal's own refusal; the second's; 16; 14.
  */
 uint64_t beamtassel_two_views(const uint8_t *first, size_t first_length, const uint8_t *second, size_t second_length, uint8_t *out,

@@ -275,6 +275,9 @@ pub fn finalizing(journal: &[u8]) -> Result<Vec<u8>, Refusal> {
 /// included, or who precommitted in both for blocks that differ in id. A voter silent in both adds nothing, and neither does one heard once in
 /// one of them and not in the other. A journal beside itself gives the weight of the voters who precommitted twice in it.
 ///
+/// Where each journal has a final block and neither block is the other or its ancestor, the weight is above the fault weight, `(total - 1) / 3`.
+/// It tells how much weight contradicted itself, and not who; a weight above the fault weight alone does not mean two final blocks.
+///
 /// # Errors
 /// The first journal's own refusal; the second's; [`Refusal::NOT_ONE_ROUND`], in this order.
 pub fn two_views(first: &[u8], second: &[u8]) -> Result<u64, Refusal> {

@@ -65,7 +65,7 @@ finalizing-given r s out = rw s (go (r .answers .finalized))
         (record-size (r .votes) (r .context .voters .ids) (r .table .ids) (r .table .numbers)) (entries-of (Finalizing b) r) out
     go Nothing = refl
 
-views-are : (a b : Round) → shaped a ≡ true → shaped b ≡ true → views a b ≡ views-in a b
+pub views-are : (a b : Round) → shaped a ≡ true → shaped b ≡ true → views a b ≡ views-in a b
 unfolding views views-in
 views-are a b s t = rw (s, t)
 

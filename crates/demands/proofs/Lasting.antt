@@ -62,7 +62,7 @@ use Rattle.demands.proofs.Meant.{keeps, kept, whole, told-meant}
 
 -- A round whose voters weigh nothing has no voter, takes no vote and tells nothing.
 
-abbrev nothing-told : Told
+abbrev pub nothing-told : Told
 nothing-told = record { ghost = none; finalized = none; estimate = none; completable = false }
 
 module _ (f : Frame) (nobody : f .voters .count ≡ 0) where
@@ -108,16 +108,16 @@ estimated vs t base pv pc (some g) c e =
     (first-of (t .up) (possible-at vs (t .up) pc) base g) c e
 
 -- a stored block is in the table
-abbrev In : ℕ → Option ℕ → Type 0
+abbrev pub In : ℕ → Option ℕ → Type 0
 In n none = Unit {0}
 In n (some a) = a < n
 
-seat-in : (parents : List ℕ) (base n : ℕ) (o : Found) → Seated parents base n o → In n (as-option o)
+pub seat-in : (parents : List ℕ) (base n : ℕ) (o : Found) → Seated parents base n o → In n (as-option o)
 seat-in parents base n Nothing s = tt
 seat-in parents base n (At b) s = s .0
 
 module _ (r : Round) (reached : Reached r) where
-  silent : r .context .voters .total ≡ 0 → answers-of r ≡ nothing-told
+  pub silent : r .context .voters .total ≡ 0 → answers-of r ≡ nothing-told
   silent e =
       let x = reached-state r reached in
       comes-silent (with-table (frame r) (x .table)) (none-there (ℕ-discrete (r .context .voters .count) 0)) (opened-held (r .graph .base)) refl (r .table) (held r)
@@ -136,10 +136,10 @@ module _ (r : Round) (reached : Reached r) where
           ))
 
   module _ (weighs : Weighs r) where
-    abbrev from : Option ℕ → Told
+    abbrev pub from : Option ℕ → Told
     from o = told-from (voters-of r) (blocks-of r) (r .graph .base) (votes-of r Prevote) (votes-of r Precommit) o
 
-    told-by : (o : Option ℕ) × (answers-of r ≡ from o) × time.Stored (blocks-of r) (r .graph .base) o
+    pub told-by : (o : Option ℕ) × (answers-of r ≡ from o) × time.Stored (blocks-of r) (r .graph .base) o
     told-by =
         let x = reached-tells (frame r) (held r) (reached-state r reached) weighs in (
           x .0,

@@ -7,6 +7,7 @@ pub mod Shown
 pub mod Meant
 pub mod Weighing
 pub mod Lasting
+pub mod Makers
 pub mod Ballots
 pub mod Beyond
 pub mod Judging

@@ -17,7 +17,8 @@ use Rattle.grandpa.specs.Possible.{possible-at}
 use Rattle.grandpa.specs.Answers.{Says, Highest, highest-of, Ghost, ghost-of, First, first-of, Finalized, finalized-of, Estimate, estimate-of, Completable, every-child, with-node, settled-at, completable-of}
 use Rattle.grandpa.specs.Time.{Placed, Votes-placed}
 use Rattle.grandpa.proofs.Trees.{below-refl, below-trans, below-le, below-antisym, child-below, child-towards, number-below, number-strictly}
-use Rattle.grandpa.proofs.Votes.{one-line, base-weight, weight-up, bare-impossible, heard-le}
+use Rattle.grandpa.proofs.Votes.{base-weight, weight-up, bare-impossible, heard-le}
+use Rattle.grandpa.proofs.Makers.{one-line}
 use Rattle.grandpa.proofs.Searches.{first-down, first-unique, first-says, first-some, highest-says, highest-some}
 
 -- Prevote-GHOST
@@ -42,7 +43,7 @@ ghost-some vs t pv b reached h w =
 module _ (vs : Voters) (t : Blocks) (tabled : Tabled t) (some-weight : 0 < total vs) (pv : ℕ → Vote) (few : equivocators vs pv ≤ fault (total vs)) where
   -- of two blocks of weight T or more, the one numbered no lower is at or below the other
   lower : (a b : ℕ) → a < t .count → T (weighty vs (t .up) pv a) → T (weighty vs (t .up) pv b) → t .number a ≤ t .number b → T (below (t .up) a b)
-  lower a b h p q n = go (one-line vs (t .up) pv (tabled .falls) a b some-weight few (leb→le _ _ p) (leb→le _ _ q)) (ℕ-discrete b a)
+  lower a b h p q n = go (one-line vs (t .up) (tabled .falls) some-weight pv a b few (leb→le _ _ p) (leb→le _ _ q)) (ℕ-discrete b a)
     where
       go : T (below (t .up) a b) ⊎ T (below (t .up) b a) → Dec (b ≡ a) → T (below (t .up) a b)
       go (inl l) d = l
@@ -68,7 +69,7 @@ module _ (vs : Voters) (t : Blocks) (tabled : Tabled t) (some-weight : 0 < total
   pub ghost-found : (g : ℕ) → threshold (total vs) ≤ heard vs pv → g < t .count → T (weighty vs (t .up) pv g)
       → ((k : ℕ) → k < t .count → T (child (t .up) g k) → T (weighty vs (t .up) pv k) → ⊥) → Ghost vs t pv g
   ghost-found g reached h w childless =
-      record { reached = reached; highest = record { tabled = h; passes = w; highest = λ b l p. above b l p (one-line vs (t .up) pv (tabled .falls) b g some-weight few (leb→le _ _ p) (leb→le _ _ w)) } }
+      record { reached = reached; highest = record { tabled = h; passes = w; highest = λ b l p. above b l p (one-line vs (t .up) (tabled .falls) some-weight pv b g few (leb→le _ _ p) (leb→le _ _ w)) } }
     where
       under : (b : ℕ) → b < t .count → T (weighty vs (t .up) pv b) → T (below (t .up) g b) → Dec (g ≡ b) → t .number b ≤ t .number g
       under b l p m (yes e) = omega (arith, ap (t .number) e)

@@ -1,9 +1,10 @@
 pub mod Numbers
 pub mod Trees
 pub mod Votes
+pub mod Views
+pub mod Makers
 pub mod Searches
 pub mod Answers
 pub mod Growth
 pub mod Kept
-pub mod Views
 pub mod Cases

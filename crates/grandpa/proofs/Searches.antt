@@ -17,7 +17,7 @@ use Rattle.grandpa.specs.Possible.{possible, possible-at}
 use Rattle.grandpa.specs.Answers.{Says, Highest, higher, highest-of, Ghost, ghost-of, First, search-up, first-of, Finalized, finalized-of, Estimate, estimate-of, Completable, every-child, with-node, completable-of}
 use Rattle.grandpa.specs.Time.{Placed, Votes-placed}
 use Rattle.grandpa.proofs.Trees.{below-refl, below-up, below-trans, below-le, below-antisym, below-line, below-step, child-below, child-towards, number-below, number-strictly}
-use Rattle.grandpa.proofs.Votes.{one-line, base-weight, weight-up, bare-weight, bare-impossible, possible-up, weight-heard, heard-le}
+use Rattle.grandpa.proofs.Votes.{base-weight, weight-up, bare-weight, bare-impossible, possible-up, weight-heard, heard-le}
 
 -- what a computation ends with: a place of which P holds, or none, and then N
 abbrev pub Ends : (ℕ → Type 0) → Type 0 → Option ℕ → Type 0

@@ -1,13 +1,12 @@
 -- Weights of recorded votes. Each law is a fact about one vote, by cases, lifted to a sum over the voters.
 use mathlib.Core.Bool.{Bool, true, false, cond, not, _&&_, _||_}
 use mathlib.Core.Path.{_≡_, refl, sym, ap, subst, _∙_}
-use mathlib.Core.Logic.{_≢_, _⊎_, inl, inr}
 use Prim.Native.Nat.{ℕ, pred, _+_, _-_, _*_, _/_, _≤_, _<_, min}
 use native.Mathlib.Omega.{arith}
 use lib.Dec.{T, leb, leb→le, le→leb, T-not, not-T}
 use Rattle.loops.specs.Sum.{sum, weigh}
 use Rattle.loops.specs.All.{any}
-use Rattle.loops.proofs.Tests.{both, left-of, right-of, in-left, in-right, either, decT, same-test, true-T}
+use Rattle.loops.proofs.Tests.{same-test, true-T}
 use Rattle.loops.proofs.Alls.{any-at, any-intro}
 use Rattle.loops.proofs.Sums.{sum-add, sum-cong, weigh-cong, weigh-mono, weigh-le, weigh-both, weigh-not, weigh-every}
 use Rattle.grandpa.specs.Weight.{fault, threshold}
@@ -15,7 +14,7 @@ use Rattle.grandpa.specs.Tree.{Blocks, Tabled, below, child}
 use Rattle.grandpa.specs.Vote.{Vote, silent, once, twice, Voters, total, spoke, equivocated, backs, lands, heard, unheard, equivocators, phase-weight, weighty, noded}
 use Rattle.grandpa.specs.Possible.{possible, possible-at}
 use Rattle.grandpa.specs.Time.{Later, any-yet, the-same, a-second, no-third, Votes-later, Placed, Votes-placed}
-use Rattle.grandpa.proofs.Trees.{below-trans, below-line, below-le, below-same, child-below}
+use Rattle.grandpa.proofs.Trees.{below-trans, below-le, below-same, child-below}
 
 -- heard and unheard weight sum to the total
 pub heard-unheard : (vs : Voters) (v : ℕ → Vote) → heard vs v + unheard vs v ≡ total vs
@@ -125,31 +124,6 @@ module _ (vs : Voters) (up : ℕ → ℕ) (v : ℕ → Vote) where
         rise silent t = t
         rise (once s) t = below-trans up falls a b s h t
         rise (twice s) t = tt
-
-    -- two blocks of weight T or more, with equivocators at most F, lie on one line
-    pub one-line : (a b : ℕ) → 0 < total vs → equivocators vs v ≤ fault (total vs)
-        → threshold (total vs) ≤ phase-weight vs up v a → threshold (total vs) ≤ phase-weight vs up v b
-        → T (below up a b) ⊎ T (below up b a)
-    one-line a b some few h k = go (decT (below up a b)) (decT (below up b a))
-      where
-        shared : (T (below up a b) → ⊥) → (T (below up b a) → ⊥) → (x : Vote) → T (backs up a x && backs up b x) → T (equivocated x)
-        shared p q silent t = t
-        shared p q (once s) t = split (below-line up falls a b s (left-of (below up a s) (below up b s) t) (right-of (below up a s) (below up b s) t))
-          where
-            split : T (below up a b) ⊎ T (below up b a) → ⊥
-            split (inl l) = p l
-            split (inr l) = q l
-        shared p q (twice s) t = tt
-
-        go : Dec (T (below up a b)) → Dec (T (below up b a)) → T (below up a b) ⊎ T (below up b a)
-        go (yes p) d = inl p
-        go (no p) (yes q) = inr q
-        go (no p) (no q) =
-            absurd (omega (
-              arith,
-              overlap vs (λ i. backs up a (v i)) (λ i. backs up b (v i)) some h k,
-              weigh-mono (vs .size) (vs .weight) (λ i. backs up a (v i) && backs up b (v i)) (λ i. equivocated (v i)) (λ i l. shared p q (v i)),
-            ))
 
     -- possible grows with weight, so it holds of every block above one where it holds
     pub possible-up : (a b : ℕ) → T (below up a b) → T (possible-at vs up v b) → T (possible-at vs up v a)
