@@ -89,10 +89,7 @@ module _ (parents ids parents′ ids′ : List ℕ) (base count count′ : ℕ) 
             (s .nodes .tabled x u);
         listed-fits = s .listed-fits;
         tips-fit = s .tips-fit;
-        used-size = s .used-size;
-        above-size = s .above-size;
-        rows-size = s .rows-size;
-        row-size = s .row-size;
+        sized = s .sized;
         order-clear = s .order-clear;
         heads-clear = s .heads-clear;
       }
@@ -110,6 +107,7 @@ extended-faithful k f parents ids numbers count tabled small grown same-ids =
       shape =
           shape-more (col (k .parents)) (col parents) (col (k .ids)) (col ids) (f .tabled .falls) (k .base) (k .count) count (grown .more) (grown .same-up) same-ids
           (k .cast) _ (f .shape);
+      only = f .only;
       no-voter = f .no-voter;
       two-words = f .two-words;
       doubled = f .doubled;

@@ -22,6 +22,7 @@ use Rattle.nodes.specs.Nodes.{col, flag, row}
 use Rattle.nodes.specs.Columns.{view}
 use Rattle.vote_insert.specs.Insert.{opened}
 use Rattle.vote_insert.proofs.Opens.{sound-opened}
+use Rattle.answers.specs.Update.{no-heard}
 use Rattle.answer_laws.specs.Faithful.{Setting, table, voters, Faithful}
 
 module _ (set : VoterSet) (parents ids numbers : List ℕ) (count base : ℕ) where
@@ -36,7 +37,7 @@ module _ (set : VoterSet) (parents ids numbers : List ℕ) (count base : ℕ) wh
         base = base;
         graph = opened base;
         equivocations = replicate 2 0;
-        heard = record { prevote = 0; precommit = 0 };
+        heard = no-heard;
         cast = λ j. silent;
       }
 
@@ -64,7 +65,7 @@ module _ (set : VoterSet) (parents ids numbers : List ℕ) (count base : ℕ) wh
                 words = λ x u. ap length (no-bit x (omega (arith, nodes .tabled x u)));
                 told = λ x u j. ap (λ (b : List ℕ). has b j) (no-bit x (omega (arith, nodes .tabled x u))) ∙ has-none 2 j;
               };
-          voted = record { target-used = λ j x t. absurd t; used-only = λ x u n. absurd (alone x u n) };
+          voted = record { target-used = λ j x t. absurd t };
         }
 
     pub opened-faithful : Faithful opening
@@ -75,6 +76,7 @@ module _ (set : VoterSet) (parents ids numbers : List ℕ) (count base : ℕ) wh
           tabled = tabled;
           small = small;
           shape = shape;
+          only = λ x u n. absurd (alone x u n);
           no-voter = λ phase p h. refl;
           two-words = refl;
           doubled = λ j. has-none 2 j;

@@ -17,7 +17,7 @@ use Rattle.bitfield.specs.Bits.{has}
 use Rattle.context.specs.declared.Phase.{Phase}
 use Rattle.context.specs.declared.Phase.the-variants.{Prevote, Precommit}
 use Rattle.context.specs.Votes.{bit}
-use Rattle.graph.specs.Shape.{Shape}
+use Rattle.graph.specs.Shape.{Shape, Used-only}
 use Rattle.nodes.specs.declared.Found.{Found}
 use Rattle.nodes.specs.declared.Found.the-variants.{At, Nothing}
 use Rattle.nodes.specs.Nodes.{col, flag}
@@ -62,6 +62,7 @@ pub record Faithful (k : Setting) : Type 0 where
   pub tabled : Tabled (table k)
   pub small : k .count ≤ 256
   pub shape : Shape (col (k .parents)) (col (k .ids)) (k .base) (k .count) (k .cast) (view (k .graph))
+  pub only : Used-only (k .base) (k .cast) (flag (k .graph .used))
   pub no-voter : (phase : Phase) (p : ℕ) → k .set .count ≤ p → votes k phase p ≡ silent
   pub two-words : length (k .equivocations) ≡ 2
   pub doubled : (j : ℕ) → has (k .equivocations) j ≡ equivocated (k .cast j)

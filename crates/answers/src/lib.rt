@@ -2,7 +2,9 @@
 ghost use mathlib.Core.Path.{_≡_};
 ghost use mathlib.Core.List.{List};
 ghost use Prim.Native.Nat.{ℕ};
-ghost use Rattle.answers.specs.Update.{lent, scene, Grounded, In-base, start-of, phase-ghost, with-ghost, untested, update};
+ghost use Rattle.lent.specs.Moment.{given, before, plain};
+ghost use Rattle.nodes.specs.Columns.{graph-at};
+ghost use Rattle.answers.specs.Update.{no-heard, no-answers, scene, Grounded, In-base, start-of, phase-ghost, with-ghost, untested, update};
 ghost use Rattle.vote_search.specs.Searches.{unheaded};
 use context::Phase;
 use grandpa::PossibleToPrecommit;
@@ -24,6 +26,27 @@ pub struct Answers {
 pub struct Heard {
     pub prevote: u64,
     pub precommit: u64,
+}
+
+pub fn no_answers() -> Answers
+    ensures { λ r. ⌜ r ≡ no-answers ⌝ }
+{
+    Answers {
+        prevote: Found::Nothing,
+        precommit: Found::Nothing,
+        finalized: Found::Nothing,
+        estimate: Found::Nothing,
+        completable: false,
+    }
+}
+
+pub fn no_heard() -> Heard
+    ensures { λ r. ⌜ r ≡ no-heard ⌝ }
+{
+    Heard {
+        prevote: 0,
+        precommit: 0,
+    }
 }
 
 fn start_of(stored: Found, base: u8) -> u8
@@ -53,8 +76,8 @@ pub fn phase_ghost<'a>(
     heard: u64,
     stored: Found,
 ) -> Found
-    requires { ⌜ (Grounded (now parents) base (lent (now used) (now above) (now rows) (now order) listed (now heads) tips)) × In-base (now parents) base stored ⌝ }
-    ensures { λ r. ⌜ r ≡ phase-ghost (scene (now (parents .entry)) base (now (weights .entry)) threshold (lent (now (used .entry)) (now (above .entry)) (now (rows .entry)) (now (order .entry)) listed (now (heads .entry)) tips) equivocations) phase heard stored ⌝ }
+    requires { ⌜ (Grounded (now parents) base (graph-at given used above rows order listed heads tips)) × In-base (now parents) base stored ⌝ }
+    ensures { λ r. ⌜ r ≡ phase-ghost (scene (now (parents .entry)) base (now (weights .entry)) threshold (graph-at before used above rows order listed heads tips) equivocations) phase heard stored ⌝ }
 {
     if heard < threshold {
         return stored;
@@ -98,8 +121,8 @@ pub fn with_ghost<'a>(
     heard: Heard,
     answers: Answers,
 ) -> Answers
-    requires { ⌜ (Grounded (now parents) base (lent (now used) (now above) (now rows) (now order) listed (now heads) tips)) × In-base (now parents) base (answers .prevote) ⌝ }
-    ensures { λ r. ⌜ r ≡ with-ghost (scene (now (parents .entry)) base (now (weights .entry)) threshold (lent (now (used .entry)) (now (above .entry)) (now (rows .entry)) (now (order .entry)) listed (now (heads .entry)) tips) equivocations) heard phase answers ⌝ }
+    requires { ⌜ (Grounded (now parents) base (graph-at given used above rows order listed heads tips)) × In-base (now parents) base (answers .prevote) ⌝ }
+    ensures { λ r. ⌜ r ≡ with-ghost (scene (now (parents .entry)) base (now (weights .entry)) threshold (graph-at before used above rows order listed heads tips) equivocations) heard phase answers ⌝ }
 {
     match phase {
         Phase::Prevote => {
@@ -150,7 +173,8 @@ fn is_completable<'a>(
     g: u8,
     estimate: Found,
 ) -> bool
-    requires { ⌜ ((heads : List ℕ) × (tips : ℕ) × (base : ℕ) × (Grounded (now parents) base (lent (now used) (now above) (now rows) (now order) listed heads tips)) × In-base (now parents) base estimate) ⌝ }
+    requires { ⌜ ((heads : List ℕ) × (tips : ℕ) × (base : ℕ)
+        × (Grounded (now parents) base (graph-at plain (now used) (now above) (now rows) (now order) listed heads tips)) × In-base (now parents) base estimate) ⌝ }
     ensures { λ r. ⌜ r ≡ untested (now (parents .entry)) (now (weights .entry)) (unheaded (now (used .entry)) (now (rows .entry)) (now (order .entry)) listed) possible g estimate ⌝ }
 {
     let Found::At(block) = estimate else {
@@ -191,8 +215,8 @@ pub fn update<'a>(
     heard: Heard,
     answers: Answers,
 ) -> Answers
-    requires { ⌜ (Grounded (now parents) base (lent (now used) (now above) (now rows) (now order) listed (now heads) tips)) × In-base (now parents) base (answers .prevote) ⌝ }
-    ensures { λ r. ⌜ r ≡ update (scene (now (parents .entry)) base (now (weights .entry)) threshold (lent (now (used .entry)) (now (above .entry)) (now (rows .entry)) (now (order .entry)) listed (now (heads .entry)) tips) equivocations) total heard answers ⌝ }
+    requires { ⌜ (Grounded (now parents) base (graph-at given used above rows order listed heads tips)) × In-base (now parents) base (answers .prevote) ⌝ }
+    ensures { λ r. ⌜ r ≡ update (scene (now (parents .entry)) base (now (weights .entry)) threshold (graph-at before used above rows order listed heads tips) equivocations) total heard answers ⌝ }
 {
     if heard.prevote < threshold {
         return answers;

@@ -20,9 +20,15 @@ use Rattle.bitfield.specs.Bits.{inWord, has, every}
 use Rattle.bitfield.proofs.Words.{inWord-zero, inWord-cut}
 use Rattle.bitfield.proofs.Sets.{has-at, has-every}
 use Rattle.bitfield.proofs.Walks.{Low, low}
+use Rattle.layouts.proofs.Uses.{index-alternates}
 use Rattle.context.specs.declared.Phase.{Phase}
 use Rattle.context.specs.declared.Phase.the-variants.{Prevote, Precommit}
 use Rattle.context.specs.Votes.{offset, bit, voted, weightOf, heardIn}
+
+-- the weighing is that of the alternating run
+alternates : (phase : Phase) (p : ℕ) → bit phase p ≡ 2 * p + offset phase
+unfolding bit
+alternates phase p = index-alternates (offset phase) p
 
 -- a word's sum is that of the word without its lowest bit, and that bit's
 pub word-step : (v : ℕ → ℕ) (w : ℕ) → 0 < w → w < 2 ^ 64
@@ -73,11 +79,11 @@ module _ (v : ℕ → ℕ) where
           ≡ cond (has bits (bit phase p)) (v p) 0
       pair Prevote p =
           let place : 2 * p / 2 ≡ p = omega arith in
-          let at : 2 * p + 0 ≡ 2 * p = omega arith in
+          let at : bit Prevote p ≡ 2 * p = omega (arith, alternates Prevote p) in
           rw (taken 0 (omega arith) (2 * p) (omega arith), left-out 0 (omega arith) (2 * p + 1) (λ e. omega arith), place, at) (add-zero (cond (has bits (2 * p)) (v p) 0))
       pair Precommit p =
           let place : (2 * p + 1) / 2 ≡ p = omega arith in
-          rw (left-out 1 (omega arith) (2 * p) (λ e. omega arith), taken 1 (omega arith) (2 * p + 1) (omega arith), place) (zero-add (cond (has bits (2 * p + 1)) (v p) 0))
+          rw (left-out 1 (omega arith) (2 * p) (λ e. omega arith), taken 1 (omega arith) (2 * p + 1) (omega arith), place, alternates Precommit p) (zero-add (cond (has bits (2 * p + 1)) (v p) 0))
 
   -- two words, one after the other
   pub words-sum : (ws : List ℕ)

@@ -1,8 +1,9 @@
 // Votes as bits and their weight, equivocators joined in: round/context.rs of finality-grandpa.
 ghost use mathlib.Core.Path.{_≡_};
-ghost use Prim.Native.Nat.{_≤_, min};
+ghost use Prim.Native.Nat.{_<_, min};
 ghost use Rattle.weights.specs.Weights.{most};
-ghost use Rattle.context.specs.Votes.{offset, bit, voted, weightOf};
+ghost use Rattle.sizes.specs.Sizes.{VOTERS, VOTES};
+ghost use Rattle.context.specs.Votes.{offset, bit, phase-at, voted, weightOf};
 ghost use Rattle.context.specs.Context.{vote, no-votes, with-node, with-vote, opened, with-equivocator, counts};
 use bitfield::Bit1;
 use voter_info::VoterInfo;
@@ -32,13 +33,8 @@ pub struct VoteNode {
     pub bits: [u64; 2],
 }
 
-// The places up to here have bits whose positions fit a machine number.
-const PLACES: usize = 9223372036854775808;
-
-const MOST: usize = 18446744073709551615;
-
 fn offset(phase: Phase) -> usize
-    ensures { λ r. ⌜ (r ≡ offset phase) × (r ≤ 1) ⌝ }
+    ensures { λ r. ⌜ (r ≡ offset phase) × (r < 2) ⌝ }
 {
     match phase {
         Phase::Prevote => 0,
@@ -49,12 +45,25 @@ fn offset(phase: Phase) -> usize
 fn bit_of(place: usize, phase: Phase) -> usize
     ensures { λ r. ⌜ r ≡ min (bit phase place) most ⌝ }
 {
-    let odd = offset(phase);
-    if place < PLACES {
-        place * 2 + odd
-    } else {
-        MOST
+    layouts::bit(offset(phase), place)
+}
+
+// The index of a voter's votes in a phase: its bit.
+pub fn index(place: usize, phase: Phase) -> usize
+    requires { ⌜ place < VOTERS ⌝ }
+    ensures { λ r. ⌜ (r ≡ bit phase place) × (r < VOTES) ⌝ }
+{
+    layouts::index(offset(phase), place)
+}
+
+// The phase of an index.
+pub fn phase_at(at: usize) -> Phase
+    ensures { λ r. ⌜ r ≡ phase-at at ⌝ }
+{
+    if layouts::index_phase(at) == 0 {
+        return Phase::Prevote;
     }
+    Phase::Precommit
 }
 
 impl Vote {

@@ -155,7 +155,7 @@ fn of_votes(good: &[u64; SIZE]) {
         b"history.entries",
         round_words::ENTRIES,
         256,
-        Kind::Byte,
+        Kind::Entry,
     );
     field(
         good,

@@ -6,7 +6,7 @@ use mathlib.Core.Logic.{_≢_}
 use Prim.Native.Nat.{ℕ, _<_}
 use native.Mathlib.Omega.{arith}
 use lib.Dec.{T}
-use lib.ListN.{set, getD}
+use lib.ListN.{getD}
 use lib.Seq.{getD-set-same, getD-set-other}
 use Rattle.loops.proofs.Tests.{true-T, false-not, decT, left-of, right-of}
 use Rattle.voter_info.specs.declared.VoterInfo.{VoterInfo}
@@ -19,15 +19,15 @@ use Rattle.blocks.specs.Table.{Stands}
 use Rattle.grandpa.specs.Tree.{below}
 use Rattle.vote_graph.specs.Shape.{is-graph}
 use Rattle.context.specs.declared.Phase.{Phase}
-use Rattle.context.specs.declared.Phase.the-variants.{Prevote, Precommit}
 use Rattle.context.specs.Votes.{bit}
+use Rattle.context.proofs.Places.{bit-one, bit-few}
 use Rattle.nodes.specs.Nodes.{col}
 use Rattle.tracker.specs.declared.Votes.{Votes}
 use Rattle.tracker.specs.declared.Pair.{Pair}
 use Rattle.tracker.specs.declared.VoteMultiplicity.{VoteMultiplicity}
 use Rattle.tracker.specs.declared.VoteMultiplicity.the-variants as recorded
 use Rattle.tracker.specs.Recorded.{same, first-pair, recorded}
-use Rattle.vote_shape_laws.specs.Recorded.{Wide}
+use Rattle.tracker.specs.Votes.{Wide, with-first, with-second}
 use Rattle.judging.specs.declared.Equivocation.{Equivocation}
 use Rattle.judging.specs.declared.ImportResult.{ImportResult}
 use Rattle.judging.specs.declared.ImportResult.the-variants as vote
@@ -45,43 +45,13 @@ use Rattle.two_views.proofs.Rounds.{voters-good}
 use Rattle.demands.specs.First.{Keeps, Voter-at, recorded-of, First-vote, Rule, refused, stranger, first, again, first-again, second-again, second, third, Records}
 use Rattle.demands.proofs.Voting.{judged, judged-by, aimed-first, answer-rule}
 
--- one bit for each voter and phase
-bit-one : (i j : Phase) (k m : ℕ) → bit i k ≡ bit j m → (i ≡ j) × (k ≡ m)
-bit-one Prevote Prevote k m e = (refl, omega arith)
-bit-one Prevote Precommit k m e = absurd (omega arith)
-bit-one Precommit Prevote k m e = absurd (omega arith)
-bit-one Precommit Precommit k m e = (refl, omega arith)
-
-bit-few : (phase : Phase) (k : ℕ) → k < 64 → bit phase k < 128
-bit-few Prevote k h = omega arith
-bit-few Precommit k h = omega arith
-
 module _ (v : Votes) (ids heights : List ℕ) (j : ℕ) where
-  abbrev after-first : ℕ → ℕ → Votes
-  after-first b signature =
-      record {
-        times = set (v .times) j 1;
-        places = set (v .places) j b;
-        signatures = set (v .signatures) j signature;
-        targets = v .targets;
-        numbers = v .numbers;
-        seconds = v .seconds;
-      }
-
   abbrev after-second : Pair → Votes
-  after-second p =
-      record {
-        times = set (v .times) j 2;
-        places = v .places;
-        signatures = v .signatures;
-        targets = set (v .targets) j (p .target);
-        numbers = set (v .numbers) j (p .number);
-        seconds = set (v .seconds) j (p .signature);
-      }
+  after-second p = with-second v j (p .target) (p .number) (p .signature)
 
   module _ (w : Wide v) (few : j < 128) where
     first-here : (b signature : ℕ)
-        → recorded (after-first b signature) ids heights j ≡ recorded.Single (record { target = col ids b; number = col heights b; signature = signature })
+        → recorded (with-first v j b signature) ids heights j ≡ recorded.Single (record { target = col ids b; number = col heights b; signature = signature })
     unfolding recorded
     first-here b signature =
         rw (
@@ -102,7 +72,7 @@ module _ (v : Votes) (ids heights : List ℕ) (j : ℕ) where
         )
 
   module _ (i : ℕ) (n : i ≢ j) where
-    first-there : (b signature : ℕ) → recorded (after-first b signature) ids heights i ≡ recorded v ids heights i
+    first-there : (b signature : ℕ) → recorded (with-first v j b signature) ids heights i ≡ recorded v ids heights i
     unfolding recorded
     first-there b signature =
         rw (getD-set-other (v .times) j i 1 0 n, getD-set-other (v .places) j i b 0 n, getD-set-other (v .signatures) j i signature 0 n)

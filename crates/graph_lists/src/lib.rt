@@ -3,6 +3,7 @@ ghost use mathlib.Core.Path.{_≡_};
 ghost use mathlib.Core.Bool.{_||_};
 ghost use Prim.Native.Nat.{_-_, _≤_, _<_};
 ghost use lib.Dec.{eqb, ltb};
+ghost use Rattle.sizes.specs.Sizes.{BLOCKS};
 ghost use Rattle.loops.specs.Listing.{front};
 ghost use Rattle.columns.specs.Blank.{blank};
 ghost use Rattle.nodes.specs.Nodes.{col};
@@ -12,7 +13,7 @@ use climbs::wide;
 // Whether the first places of a column are the marked ones, once each, and the rest of it is 0.
 pub fn laid<'a>(places: &'a [u8; 256], n: usize, marks: &'a [bool; 256]) -> bool
     requires { ⌜ n ≤ 256 ⌝ }
-    ensures { λ r. ⌜ r ≡ laid (now (places .entry)) n (now (marks .entry)) ⌝ }
+    ensures { λ r. ⌜ r ≡ laid BLOCKS (now (places .entry)) n (now (marks .entry)) ⌝ }
 {
     if !once_each(places, n, marks) {
         return false;
@@ -23,7 +24,7 @@ pub fn laid<'a>(places: &'a [u8; 256], n: usize, marks: &'a [bool; 256]) -> bool
 // Each place takes its mark away, so that none comes twice and what is left was missed.
 fn once_each<'a>(places: &'a [u8; 256], n: usize, marks: &'a [bool; 256]) -> bool
     requires { ⌜ n ≤ 256 ⌝ }
-    ensures { λ r. ⌜ r ≡ once-each (now (places .entry)) n (now (marks .entry)) ⌝ }
+    ensures { λ r. ⌜ r ≡ once-each BLOCKS (now (places .entry)) n (now (marks .entry)) ⌝ }
 {
     let mut left = *marks;
     for k in 0..n {
@@ -37,7 +38,7 @@ fn once_each<'a>(places: &'a [u8; 256], n: usize, marks: &'a [bool; 256]) -> boo
 }
 
 fn none_left(marks: &[bool; 256]) -> bool
-    ensures { λ r. ⌜ r ≡ none-left (now (marks .entry)) ⌝ }
+    ensures { λ r. ⌜ r ≡ none-left BLOCKS (now (marks .entry)) ⌝ }
 {
     for k in 0..256 {
         if marks[k] {

@@ -19,10 +19,11 @@ use Rattle.graph.specs.Search.{nearest}
 use Rattle.graph.specs.Graph.{no-bits}
 use Rattle.graph.specs.Shape.{Tip, Nodes}
 use Rattle.nodes.specs.Nodes.{col, flag, row, Falls}
-use Rattle.nodes.specs.Columns.{Columns, Sound}
+use Rattle.nodes.specs.Columns.{Columns, Sized, Sound}
 use Rattle.graph_sweeps.specs.Swept.{inside, tied}
+use Rattle.sizes.specs.Sizes.{BLOCKS}
 use Rattle.graph_lists.specs.Listed.{once-each, laid, childless, rising, zero-bits, bare}
-use Rattle.graph_shape.specs.Graphed.{counted, others, graphed, Sized, Clear}
+use Rattle.graph_shape.specs.Graphed.{counted, others, graphed, Clear}
 use Rattle.graph_shape.proofs.Counts.{Counts, counted-says, says-counted}
 use Rattle.graph_shape.proofs.Marks.{unset, struck-length, left-says, says-left, blank-padded, padded-blank, Once, once-says, says-once}
 use Rattle.graph_shape.proofs.Heads.{rising-says, says-rising}
@@ -114,17 +115,17 @@ module _ (used : List Bool) (rows : List (List ℕ)) where
 
 -- a list laid down in a column
 module _ (places : List ℕ) (n : ℕ) (marks : List Bool) where
-  laid-once : length marks ≡ 256 → T (laid places n marks) → Once places n marks
+  laid-once : length marks ≡ BLOCKS → T (laid BLOCKS places n marks) → Once places n marks
   unfolding laid
-  laid-once s t = once-says places n marks s (left-of (once-each places n marks) _ t)
+  laid-once s t = once-says BLOCKS places n marks s (left-of (once-each BLOCKS places n marks) _ t)
 
-  laid-blank : T (laid places n marks) → T (blank places n 256)
+  laid-blank : T (laid BLOCKS places n marks) → T (blank places n BLOCKS)
   unfolding laid
-  laid-blank t = right-of (once-each places n marks) _ t
+  laid-blank t = right-of (once-each BLOCKS places n marks) _ t
 
-  says-laid : Once places n marks → T (blank places n 256) → T (laid places n marks)
+  says-laid : Once places n marks → T (blank places n BLOCKS) → T (laid BLOCKS places n marks)
   unfolding laid
-  says-laid o b = both (once-each places n marks) _ (says-once places n marks o) b
+  says-laid o b = both (once-each BLOCKS places n marks) _ (says-once BLOCKS places n marks o) b
 
 module _ (parents ids : List ℕ) (base count : ℕ) (g : Columns) where
   -- each test of the whole
@@ -132,8 +133,8 @@ module _ (parents ids : List ℕ) (base count : ℕ) (g : Columns) where
     pub counts : T (counted count base (g .used) (g .listed) (g .tips))
     pub within : T (inside parents count base (g .used))
     pub ties : T (tied parents (g .used) (others (g .used) base) (g .above))
-    pub lists : T (laid (g .order) (g .listed) (others (g .used) base))
-    pub ends : T (laid (g .heads) (g .tips) (childless (g .used) (g .above) (front (g .listed) (g .order))))
+    pub lists : T (laid BLOCKS (g .order) (g .listed) (others (g .used) base))
+    pub ends : T (laid BLOCKS (g .heads) (g .tips) (childless (g .used) (g .above) (front (g .listed) (g .order))))
     pub rises : T (rising ids (g .heads) (g .tips))
     pub bares : T (bare (g .used) (g .rows))
 
@@ -143,14 +144,14 @@ module _ (parents ids : List ℕ) (base count : ℕ) (g : Columns) where
       let a = right-of (counted count base (g .used) (g .listed) (g .tips)) _ t in
       let b = right-of (inside parents count base (g .used)) _ a in
       let c = right-of (tied parents (g .used) (others (g .used) base) (g .above)) _ b in
-      let d = right-of (laid (g .order) (g .listed) (others (g .used) base)) _ c in
-      let e = right-of (laid (g .heads) (g .tips) (childless (g .used) (g .above) (front (g .listed) (g .order)))) _ d in
+      let d = right-of (laid BLOCKS (g .order) (g .listed) (others (g .used) base)) _ c in
+      let e = right-of (laid BLOCKS (g .heads) (g .tips) (childless (g .used) (g .above) (front (g .listed) (g .order)))) _ d in
       record {
         counts = left-of (counted count base (g .used) (g .listed) (g .tips)) _ t;
         within = left-of (inside parents count base (g .used)) _ a;
         ties = left-of (tied parents (g .used) (others (g .used) base) (g .above)) _ b;
-        lists = left-of (laid (g .order) (g .listed) (others (g .used) base)) _ c;
-        ends = left-of (laid (g .heads) (g .tips) (childless (g .used) (g .above) (front (g .listed) (g .order)))) _ d;
+        lists = left-of (laid BLOCKS (g .order) (g .listed) (others (g .used) base)) _ c;
+        ends = left-of (laid BLOCKS (g .heads) (g .tips) (childless (g .used) (g .above) (front (g .listed) (g .order)))) _ d;
         rises = left-of (rising ids (g .heads) (g .tips)) _ e;
         bares = right-of (rising ids (g .heads) (g .tips)) _ e;
       }
@@ -161,8 +162,8 @@ module _ (parents ids : List ℕ) (base count : ℕ) (g : Columns) where
       both (counted count base (g .used) (g .listed) (g .tips)) _ (p .counts)
       (both (inside parents count base (g .used)) _ (p .within)
       (both (tied parents (g .used) (others (g .used) base) (g .above)) _ (p .ties)
-      (both (laid (g .order) (g .listed) (others (g .used) base)) _ (p .lists)
-      (both (laid (g .heads) (g .tips) (childless (g .used) (g .above) (front (g .listed) (g .order)))) _ (p .ends)
+      (both (laid BLOCKS (g .order) (g .listed) (others (g .used) base)) _ (p .lists)
+      (both (laid BLOCKS (g .heads) (g .tips) (childless (g .used) (g .above) (front (g .listed) (g .order)))) _ (p .ends)
       (both (rising ids (g .heads) (g .tips)) _ (p .rises) (p .bares))))))
 
   module _ (falls : Falls parents) (sized : Sized g) (p : Passed) where
@@ -240,12 +241,9 @@ module _ (parents ids : List ℕ) (base count : ℕ) (g : Columns) where
           tied = ties-are;
           listed-fits = counts-are .listed-fits;
           tips-fit = counts-are .tips-fit;
-          used-size = sized .used-size;
-          above-size = sized .above-size;
-          rows-size = sized .rows-size;
-          row-size = sized .row-size;
-          order-clear = blank-padded (g .order) (g .listed) (sized .order-size) (counts-are .listed-fits) (laid-blank (g .order) (g .listed) _ (p .lists));
-          heads-clear = blank-padded (g .heads) (g .tips) (sized .heads-size) (counts-are .tips-fit) (laid-blank (g .heads) (g .tips) _ (p .ends));
+          sized = sized;
+          order-clear = blank-padded (g .order) BLOCKS (g .listed) (sized .order-size) (counts-are .listed-fits) (laid-blank (g .order) (g .listed) _ (p .lists));
+          heads-clear = blank-padded (g .heads) BLOCKS (g .tips) (sized .heads-size) (counts-are .tips-fit) (laid-blank (g .heads) (g .tips) _ (p .ends));
         }
 
     clear-are : Clear base g
@@ -279,10 +277,10 @@ module _ (parents ids : List ℕ) (base count : ℕ) (g : Columns) where
                 there = λ x r. let o = others-says (g .used) base x r in s .nodes .listed x (o .0) (o .1);
                 only = λ x h. let o = s .nodes .list-only x h in says-others (g .used) base x (o .0) (o .1);
               })
-              (padded-blank (g .order) (g .listed) (s .order-clear));
+              (padded-blank (g .order) BLOCKS (g .listed) (s .order-clear));
           ends = says-laid (g .heads) (g .tips) (childless (g .used) (g .above) (front (g .listed) (g .order)))
               (record { there = λ x r. head x (left-says (col (g .above)) x (front (g .listed) (g .order)) (g .used) r); only = λ x h. end x (s .nodes .head-only x h) })
-              (padded-blank (g .heads) (g .tips) (s .heads-clear));
+              (padded-blank (g .heads) BLOCKS (g .tips) (s .heads-clear));
           rises = says-rising ids (g .heads) (g .tips) (s .nodes .rising);
           bares = says-bare (g .used) (g .rows) (c .bare-rows);
         }

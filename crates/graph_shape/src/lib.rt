@@ -1,6 +1,8 @@
 // The shape rules of a vote graph that is handed in, tested on lent columns.
 ghost use mathlib.Core.Path.{_≡_};
+ghost use Rattle.lent.specs.Moment.{before};
 ghost use Rattle.nodes.specs.Nodes.{Falls};
+ghost use Rattle.nodes.specs.Columns.{graph-at};
 ghost use Rattle.graph_shape.specs.Graphed.{counted, others, graphed};
 use climbs::wide;
 
@@ -19,7 +21,7 @@ pub fn is_graph<'a>(
     tips: usize,
 ) -> bool
     requires { ⌜ Falls (now parents) ⌝ }
-    ensures { λ r. ⌜ r ≡ graphed (now (parents .entry)) (now (ids .entry)) base count (record { used = now (used .entry); above = now (above .entry); rows = now (rows .entry); order = now (order .entry); listed = listed; heads = now (heads .entry); tips = tips }) ⌝ }
+    ensures { λ r. ⌜ r ≡ graphed (now (parents .entry)) (now (ids .entry)) base count (graph-at before used above rows order listed heads tips) ⌝ }
 {
     if !counted(count, base, used, listed, tips) {
         return false;

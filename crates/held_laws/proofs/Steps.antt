@@ -16,10 +16,12 @@ use Rattle.voter_laws.proofs.Goods.{total-used}
 use Rattle.context.specs.declared.Phase.{Phase}
 use Rattle.context.specs.declared.Phase.the-variants.{Prevote, Precommit}
 use Rattle.context.specs.Votes.{bit}
+use Rattle.context.proofs.Places.{bit-few}
 use Rattle.nodes.specs.Nodes.{col, flag}
 use Rattle.tracker.specs.declared.Pair.{Pair}
 use Rattle.tracker.specs.Recorded.{first-pair, cast}
-use Rattle.vote_shape_laws.specs.Recorded as column
+use Rattle.tracker.specs.Votes as column
+use Rattle.vote_shape_laws.proofs.Recordings.{cast-first}
 use Rattle.judging.specs.declared.Verdict.the-variants.{First, Second}
 use Rattle.judging.proofs.Voters.{position-inside}
 use Rattle.judging.proofs.Judged.{Aimed, judged-first, judged-second}
@@ -31,7 +33,7 @@ use Rattle.importing.specs.Import.{Frame, Held, with-first, with-second, verdic
 use Rattle.importing.proofs.Turns.{placed-in}
 use Rattle.held_laws.specs.Kept.{setting, Kept}
 use Rattle.held_laws.proofs.Parts.{cast-silent, kept-faithful, kept-apart}
-use Rattle.held_laws.proofs.Votes.{weight-there, bit-fits, cast-first, cast-second, cast-once, heard-louder}
+use Rattle.held_laws.proofs.Votes.{weight-there, cast-second, cast-once, heard-louder}
 
 -- heard weights fit
 heard-fits : (k : Setting) → Faithful k → (phase : Phase) → heard-in phase (k .heard) ≤ most
@@ -68,7 +70,7 @@ module _ (f : Frame) (h : Held) (k : Kept f h) (phase : Phase) (signer : ℕ) (p
     first-apart y u d = kept-apart f h k y b (k .sound .nodes .tabled y u) first-in-table d
 
     pub first-few : bit phase (v .position) < 128
-    first-few = omega (arith, bit-fits phase (v .position) (f .voters .count) first-in-set, k .good .few)
+    first-few = bit-few phase (v .position) (omega (arith, first-in-set, k .good .few))
 
     faithful-first : Faithful (first-vote (setting f h) phase (v .position) b)
     faithful-first =
@@ -101,7 +103,7 @@ module _ (f : Frame) (h : Held) (k : Kept f h) (phase : Phase) (signer : ℕ) (p
     second-in-set = position-inside (f .voters .ids) (f .voters .weights) (f .voters .count) signer v (spoken .0)
 
     pub second-few : bit phase (v .position) < 128
-    second-few = omega (arith, bit-fits phase (v .position) (f .voters .count) second-in-set, k .good .few)
+    second-few = bit-few phase (v .position) (omega (arith, second-in-set, k .good .few))
 
     pub second-spoken : votes (setting f h) phase (v .position) ≡ once (col (h .votes .places) (bit phase (v .position)))
     second-spoken = cast-once (h .votes) (k .wide) (bit phase (v .position)) second-few second-once

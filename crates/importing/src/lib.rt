@@ -1,14 +1,18 @@
 // How a vote is taken: `import_prevote` and `import_precommit` of round.rs, on lent columns.
 ghost use mathlib.Core.Path.{_≡_};
 ghost use Rattle.weights.specs.Weights.{plus};
-ghost use Rattle.answers.specs.Update.{lent, scene, told-after, In-base, Grounded};
-ghost use Rattle.importing.specs.Import.{with-heard, import, Ready};
+ghost use Rattle.lent.specs.Moment.{given, before, after};
+ghost use Rattle.nodes.specs.Columns.{graph-at};
+ghost use Rattle.answers.specs.Update.{scene, told-after, In-base, Grounded};
+ghost use Rattle.importing.specs.Import.{blank, with-heard, taken, import, Ready};
+ghost use Rattle.importing.specs.Lent.{frame-at, held-at};
 use answers::Answers;
 use answers::Heard;
 use context::Phase;
 use judging::Equivocation;
 use judging::ImportResult;
 use judging::Verdict;
+use sizes::HISTORY;
 use tracker::Pair;
 use weights::VoteWeight;
 use weights::VoterWeight;
@@ -26,6 +30,22 @@ pub struct Standing {
 pub struct Step {
     pub answer: ImportResult,
     pub standing: Standing,
+}
+
+// Nothing recorded, and the base the only node.
+pub fn blank() -> Standing
+    ensures { λ r. ⌜ r ≡ blank ⌝ }
+{
+    let heard = answers::no_heard();
+    let stored = answers::no_answers();
+    Standing {
+        listed: 0,
+        tips: 1,
+        count: 0,
+        equivocations: [0u64; 2],
+        heard,
+        answers: stored,
+    }
 }
 
 fn added(heard: u64, weight: VoterWeight) -> u64
@@ -70,8 +90,9 @@ fn updated<'a>(
     heard: Heard,
     stored: Answers,
 ) -> Answers
-    requires { ⌜ (Grounded (now parents) base (lent (now used) (now above) (now rows) (now order) listed (now heads) tips)) × In-base (now parents) base (stored .prevote) ⌝ }
-    ensures { λ r. ⌜ r ≡ told-after (scene (now (parents .entry)) base (now (weights .entry)) threshold (lent (now (used .entry)) (now (above .entry)) (now (rows .entry)) (now (order .entry)) listed (now (heads .entry)) tips) equivocations) total heard phase stored ⌝ }
+    requires { ⌜ (Grounded (now parents) base (graph-at given used above rows order listed heads tips)) × In-base (now parents) base (stored .prevote) ⌝ }
+    ensures { λ r. ⌜ r ≡ told-after (scene (now (parents .entry)) base (now (weights .entry)) threshold
+        (graph-at before used above rows order listed heads tips) equivocations) total heard phase stored ⌝ }
 {
     let renewed = answers::with_ghost(
         parents,
@@ -133,14 +154,17 @@ pub fn import<'a>(
     targets: &mut [u32; 128],
     numbers: &mut [u32; 128],
     seconds: &mut [u64; 128],
-    entries: &mut [u8; 256],
+    entries: &mut [u16; HISTORY],
     standing: Standing,
     phase: Phase,
     signer: u32,
     pair: Pair,
 ) -> Step
-    requires { ⌜ Ready (record { number = number; voters = record { ids = now voters; weights = now weights; count = size; threshold = threshold; total = total }; table = record { ids = now ids; numbers = now heights; parents = now parents; count = blocks }; base = base }) (record { graph = record { used = now used; above = now above; rows = now rows; order = now order; listed = standing .listed; heads = now heads; tips = standing .tips }; votes = record { times = now times; places = now places; signatures = now signatures; targets = now targets; numbers = now numbers; seconds = now seconds }; entries = now entries; count = standing .count; equivocations = standing .equivocations; heard = standing .heard; answers = standing .answers }) ⌝ }
-    ensures { λ r. ⌜ record { answer = r .answer; held = record { graph = record { used = now (used .exit); above = now (above .exit); rows = now (rows .exit); order = now (order .exit); listed = r .standing .listed; heads = now (heads .exit); tips = r .standing .tips }; votes = record { times = now (times .exit); places = now (places .exit); signatures = now (signatures .exit); targets = now (targets .exit); numbers = now (numbers .exit); seconds = now (seconds .exit) }; entries = now (entries .exit); count = r .standing .count; equivocations = r .standing .equivocations; heard = r .standing .heard; answers = r .standing .answers } } ≡ import (record { number = number; voters = record { ids = now (voters .entry); weights = now (weights .entry); count = size; threshold = threshold; total = total }; table = record { ids = now (ids .entry); numbers = now (heights .entry); parents = now (parents .entry); count = blocks }; base = base }) phase signer pair (record { graph = record { used = now (used .entry); above = now (above .entry); rows = now (rows .entry); order = now (order .entry); listed = standing .listed; heads = now (heads .entry); tips = standing .tips }; votes = record { times = now (times .entry); places = now (places .entry); signatures = now (signatures .entry); targets = now (targets .entry); numbers = now (numbers .entry); seconds = now (seconds .entry) }; entries = now (entries .entry); count = standing .count; equivocations = standing .equivocations; heard = standing .heard; answers = standing .answers }) ⌝ }
+    requires { ⌜ Ready (frame-at given voters weights size total threshold number ids heights parents blocks base)
+        (held-at given used above rows order heads times places signatures targets numbers seconds entries standing) ⌝ }
+    ensures { λ r. ⌜ taken (r .answer) (held-at after used above rows order heads times places signatures targets numbers seconds entries (r .standing))
+        ≡ import (frame-at before voters weights size total threshold number ids heights parents blocks base) phase signer pair
+        (held-at before used above rows order heads times places signatures targets numbers seconds entries standing) ⌝ }
 {
     let verdict = judging::judge(
         voters,
@@ -169,12 +193,12 @@ pub fn import<'a>(
     match verdict {
         Verdict::Nothing(answer) => Step { answer, standing },
         Verdict::First(info, block) => {
-            let at = judging::index(info.position, phase);
+            let at = context::index(info.position, phase);
             let weight = info.weight;
             times[at] = 1;
             places[at] = block;
             signatures[at] = pair.signature;
-            entries[count] = (at * 2) as u8;
+            entries[count] = layouts::entry(at, 0);
             let counts = vote_insert::insert(
                 parents,
                 ids,
@@ -223,12 +247,12 @@ pub fn import<'a>(
             }
         }
         Verdict::Second(info, first) => {
-            let at = judging::index(info.position, phase);
+            let at = context::index(info.position, phase);
             times[at] = 2;
             targets[at] = pair.target;
             numbers[at] = pair.number;
             seconds[at] = pair.signature;
-            entries[count] = (at * 2 + 1) as u8;
+            entries[count] = layouts::entry(at, 1);
             let listed = standing.listed;
             let tips = standing.tips;
             let more = bitfield::set_bit(equivocations, at);

@@ -1,9 +1,11 @@
 // What is to be done with a vote: rules 1 to 5 of document 01, "How a vote is taken", and refusals 11, 12, 13. Nothing is changed here.
 ghost use mathlib.Core.Path.{_≡_};
 ghost use Prim.Native.Nat.{_≤_, _<_};
+ghost use Rattle.lent.specs.Moment.{before};
 ghost use Rattle.context.specs.Votes.{bit};
 ghost use Rattle.grandpa.specs.Tree.{below};
 ghost use Rattle.nodes.specs.Nodes.{col, Falls};
+ghost use Rattle.tracker.specs.Votes.{votes-at};
 ghost use Rattle.judging.specs.Judge.{Inside, judge-first, judge};
 use blocks::Place;
 use climbs::wide;
@@ -81,17 +83,6 @@ pub fn judge_first<'a>(
     Verdict::First(info, block)
 }
 
-// A voter's bit in a phase, which is also the index of its votes.
-pub fn index(place: usize, phase: Phase) -> usize
-    requires { ⌜ place < 64 ⌝ }
-    ensures { λ r. ⌜ (r ≡ bit phase place) × (r < 128) ⌝ }
-{
-    match phase {
-        Phase::Prevote => place * 2,
-        Phase::Precommit => place * 2 + 1,
-    }
-}
-
 // Rules 1 to 5.
 pub fn judge<'a>(
     voters: &'a [u32; 64],
@@ -114,12 +105,13 @@ pub fn judge<'a>(
     pair: Pair,
 ) -> Verdict
     requires { ⌜ (Falls (now parents)) × (blocks ≤ 256) × (size ≤ 64) × Inside (now parents) base (now used) ⌝ }
-    ensures { λ r. ⌜ r ≡ judge (now (voters .entry)) (now (weights .entry)) size (now (ids .entry)) (now (heights .entry)) (now (parents .entry)) blocks base (record { times = now (times .entry); places = now (places .entry); signatures = now (signatures .entry); targets = now (targets .entry); numbers = now (numbers .entry); seconds = now (seconds .entry) }) phase signer pair ⌝ }
+    ensures { λ r. ⌜ r ≡ judge (now (voters .entry)) (now (weights .entry)) size (now (ids .entry)) (now (heights .entry)) (now (parents .entry)) blocks base
+        (votes-at before times places signatures targets numbers seconds) phase signer pair ⌝ }
 {
     let Lookup::Voter(info) = voter_info::look_up(voters, weights, size, signer) else {
         return Verdict::Nothing(ImportResult::Outside);
     };
-    let at = index(info.position, phase);
+    let at = context::index(info.position, phase);
     let recorded = tracker::recorded(
         times,
         places,

@@ -85,13 +85,13 @@ unfolding front
 front-cong zero xs ys h = refl
 front-cong (suc n) xs ys h = rw (front-cong n xs ys h, h n)
 
-pub front-padded : (l : List ℕ) → front (length l) (padded 256 l) ≡ l
-front-padded l = front-cong (length l) (padded 256 l) l (get-padded 256 l) ∙ front-take (length l) l (omega arith) ∙ take-length l
+pub front-padded : (n : ℕ) (l : List ℕ) → front (length l) (padded n l) ≡ l
+front-padded n l = front-cong (length l) (padded n l) l (get-padded n l) ∙ front-take (length l) l (omega arith) ∙ take-length l
 
 -- a list comes back from the column and the count that hold it
 pub placed-front : (m : Places) (l : List ℕ) → m ≡ placed l → front (m .count) (m .places) ≡ l
 unfolding placed
-placed-front m l e = ap (λ (q : Places). front (q .count) (q .places)) e ∙ front-padded l
+placed-front m l e = ap (λ (q : Places). front (q .count) (q .places)) e ∙ front-padded 256 l
 
 pub placed-count : (m : Places) (l : List ℕ) → m ≡ placed l → m .count ≡ length l
 unfolding placed

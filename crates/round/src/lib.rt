@@ -4,15 +4,17 @@ ghost use mathlib.Core.Path.{_≡_};
 ghost use lib.Dec.{T};
 ghost use lib.ListN.{length};
 ghost use Prim.Native.Nat.{_≤_};
+ghost use Rattle.sizes.specs.Sizes.{HISTORY};
 ghost use Rattle.loops.specs.Listing.{front};
+ghost use Rattle.entry_lists.specs.Entries.{Fit};
 ghost use Rattle.listing.specs.Written.{Lent};
 ghost use Rattle.nodes.specs.Nodes.{Falls};
 ghost use Rattle.vote_shape.specs.Voted.{voted};
-ghost use Rattle.vote_shape_laws.specs.Recorded.{Wide};
+ghost use Rattle.tracker.specs.Votes.{Wide};
 ghost use Rattle.context.specs.declared.Phase.the-variants.{Prevote, Precommit};
 ghost use Rattle.round.specs.Shape.{index-fits, shaped};
 ghost use Rattle.round.specs.Ask.{records, listed, votes-of, historical-votes, finalizing-precommits, primary-of, heard-in, prevote-participation, precommit-participation, primary-voter, state, voters, index-number, number, threshold, prevoted-index, precommitted-index, completable, estimate, finalized, base};
-ghost use Rattle.round.specs.Calls.{no-votes, no-answers, opened, nobody, no-blocks, new, add-block, imported, import-vote, sought, with-sought, precommit-ghost, marked, set-index, block-of};
+ghost use Rattle.round.specs.Calls.{opened, nobody, no-blocks, new, add-block, imported, import-vote, sought, with-sought, precommit-ghost, marked, set-index, block-of};
 use answers::Answers;
 use answers::Heard;
 use blocks::Answer;
@@ -25,6 +27,7 @@ use judging::ImportResult;
 use listing::Wanted;
 use listing::Written;
 use nodes::Found;
+use sizes::HISTORY;
 use tracker::Pair;
 use tracker::Votes;
 use vote_graph::VoteGraph;
@@ -38,9 +41,9 @@ pub enum Index {
     Nothing,
 }
 
-// `HistoricalVotes`: recorded votes in arrival order, one byte each: entry 2i is the first pair at index i, 2i + 1 the second.
+// `HistoricalVotes`: recorded votes in arrival order, as entries.
 pub struct History {
-    pub entries: [u8; 256],
+    pub entries: [u16; HISTORY],
     pub count: usize,
     pub prevoted: Index,
     pub precommitted: Index,
@@ -135,37 +138,13 @@ pub struct Voters {
     pub voters: VoterSet,
 }
 
-fn no_answers() -> Answers
-    ensures { λ r. ⌜ r ≡ no-answers ⌝ }
-{
-    Answers {
-        prevote: Found::Nothing,
-        precommit: Found::Nothing,
-        finalized: Found::Nothing,
-        estimate: Found::Nothing,
-        completable: false,
-    }
-}
-
-fn no_votes() -> Votes
-    ensures { λ r. ⌜ r ≡ no-votes ⌝ }
-{
-    Votes {
-        times: [0u8; 128],
-        places: [0u8; 128],
-        signatures: [0u64; 128],
-        targets: [0u32; 128],
-        numbers: [0u32; 128],
-        seconds: [0u64; 128],
-    }
-}
-
 pub fn opened(number: u64, voters: VoterSet, table: BlockTable, base: u8) -> Round
     ensures { λ r. ⌜ r ≡ opened number voters table base ⌝ }
 {
     let graph = VoteGraph::new(base);
-    let votes = no_votes();
-    let answers = no_answers();
+    let votes = tracker::no_votes();
+    let stored = answers::no_answers();
+    let heard = answers::no_heard();
     Round {
         number,
         context: Context {
@@ -176,16 +155,13 @@ pub fn opened(number: u64, voters: VoterSet, table: BlockTable, base: u8) -> Rou
         graph,
         votes,
         history: History {
-            entries: [0u8; 256],
+            entries: [0u16; HISTORY],
             count: 0,
             prevoted: Index::Nothing,
             precommitted: Index::Nothing,
         },
-        heard: Heard {
-            prevote: 0,
-            precommit: 0,
-        },
-        answers,
+        heard,
+        answers: stored,
     }
 }
 
@@ -295,14 +271,14 @@ pub fn heard_in(graph: VoteGraph, phase: Phase) -> u32
 
 // Records of recorded votes from the start of what is lent: those of a list of entries.
 fn records(
-    entries: [u8; 256],
+    entries: [u16; HISTORY],
     count: usize,
     voters: VoterSet,
     table: BlockTable,
     votes: Votes,
     out: &mut [u8],
 ) -> Written
-    requires { ⌜ count ≤ 256 ⌝ }
+    requires { ⌜ (count ≤ HISTORY) × Fit entries count ⌝ }
     ensures { λ r. ⌜ _≡_ {A = Lent} (record { answer = r; bytes = now (out .exit) }) (records (front count entries) voters table votes (now (out .entry))) ⌝ }
 {
     listing::write(
@@ -878,7 +854,7 @@ impl Round {
             voters.count,
             wanted,
         );
-        let entries = list.places;
+        let entries = list.entries;
         records(entries, list.count, voters, table, votes, out)
     }
 

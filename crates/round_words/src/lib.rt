@@ -116,6 +116,10 @@ fn wider(x: u32) -> u64 {
     x as u64
 }
 
+fn entry_word(x: u16) -> u64 {
+    x as u64
+}
+
 fn bit(x: bool) -> u64 {
     if x {
         return 1;
@@ -132,6 +136,12 @@ fn put_bytes(flat: &mut [u64; SIZE], at: usize, column: &[u8]) {
 fn put_numbers(flat: &mut [u64; SIZE], at: usize, column: &[u32]) {
     for k in 0..column.len() {
         put(flat, after(at, k), wider(column[k]));
+    }
+}
+
+fn put_entries(flat: &mut [u64; SIZE], at: usize, column: &[u16]) {
+    for k in 0..column.len() {
+        put(flat, after(at, k), entry_word(column[k]));
     }
 }
 
@@ -208,7 +218,7 @@ fn index_word(index: Index) -> u64 {
 }
 
 fn put_history(flat: &mut [u64; SIZE], history: History) {
-    put_bytes(flat, ENTRIES, &history.entries);
+    put_entries(flat, ENTRIES, &history.entries);
     put(flat, ENTRY_COUNT, history.count as u64);
     let prevoted = history.prevoted;
     put(flat, PREVOTED, index_word(prevoted));
@@ -261,6 +271,10 @@ fn byte_at(flat: &[u64; SIZE], at: usize) -> u8 {
     (get(flat, at) % 256) as u8
 }
 
+fn entry_at(flat: &[u64; SIZE], at: usize) -> u16 {
+    (get(flat, at) % 65536) as u16
+}
+
 fn number_at(flat: &[u64; SIZE], at: usize) -> u32 {
     (get(flat, at) % 4294967296) as u32
 }
@@ -279,6 +293,12 @@ fn get_bytes(flat: &[u64; SIZE], at: usize, column: &mut [u8]) {
 fn get_numbers(flat: &[u64; SIZE], at: usize, column: &mut [u32]) {
     for k in 0..column.len() {
         column[k] = number_at(flat, after(at, k));
+    }
+}
+
+fn get_entries(flat: &[u64; SIZE], at: usize, column: &mut [u16]) {
+    for k in 0..column.len() {
+        column[k] = entry_at(flat, after(at, k));
     }
 }
 
@@ -397,8 +417,8 @@ fn index_at(flat: &[u64; SIZE], at: usize) -> Index {
 }
 
 fn get_history(flat: &[u64; SIZE]) -> History {
-    let mut entries = [0u8; 256];
-    get_bytes(flat, ENTRIES, &mut entries);
+    let mut entries = [0u16; 256];
+    get_entries(flat, ENTRIES, &mut entries);
     let prevoted = index_at(flat, PREVOTED);
     let precommitted = index_at(flat, PRECOMMITTED);
     History {

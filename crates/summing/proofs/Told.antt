@@ -5,6 +5,7 @@ use mathlib.Core.Path.{_≡_, refl, sym, ap, subst, _∙_}
 use Prim.Native.Nat.{ℕ, _-_, _≤_}
 use native.Mathlib.Omega.{arith}
 use lib.ListN.{length, take, drop, set, replicate, length-drop, length-set, length-replicate}
+use Rattle.lent.specs.Moment.{plain}
 use Rattle.columns.specs.Lists.{padded}
 use Rattle.weights.specs.Weights.{plus}
 use Rattle.voter_set.specs.declared.VoterSet.{VoterSet}
@@ -22,9 +23,10 @@ use Rattle.nodes.specs.Nodes.{row}
 use Rattle.vote_insert.specs.Insert as graph
 use Rattle.vote_graph.proofs.Shapes.{columns-of}
 use Rattle.importing.specs.declared.Standing.{Standing}
-use Rattle.importing.specs.Import.{Frame, Held}
+use Rattle.tracker.specs.Votes.{no-votes}
+use Rattle.importing.specs.Import.{Frame, Held, blank, opened-held}
+use Rattle.importing.specs.Lent.{held-at}
 use Rattle.held_laws.specs.Kept.{Kept}
-use Rattle.held_laws.specs.Reached.{no-votes, opened-held}
 use Rattle.held_laws.proofs.Opens.{opened-kept}
 use Rattle.marks.specs.declared.Mark.the-variants.{Rt, Op}
 use Rattle.marks.specs.declared.Record.the-variants as is
@@ -52,7 +54,7 @@ use Rattle.summary.specs.declared.Outcome.the-variants as outcome
 use Rattle.summary.specs.declared.Outcome.the-variants.{Early}
 use Rattle.summary.specs.declared.Summary.{Summary}
 use Rattle.summary.specs.Summary.{bare, of-round, summed}
-use Rattle.summing.specs.Summing.{told, of-parts, blank, closed}
+use Rattle.summing.specs.Summing.{told, of-parts, closed}
 
 -- a part of the bytes from a place on, as code makes it
 abbrev part : ℕ → List ℕ → List ℕ
@@ -177,23 +179,8 @@ module _ (m : ℕ) (v : VoterSet) (t : BlockTable) (stands : Stands Kept (growin
 -- the third turn, from columns that code has just blanked
 abbrev blanked : ℕ → ℕ → Standing → Held
 blanked w b z =
-    record {
-      graph = record {
-        used = set (replicate 256 false) w true;
-        above = replicate 256 0;
-        rows = replicate 256 (0 ∷ 0 ∷ []);
-        order = replicate 256 0;
-        listed = z .listed;
-        heads = set (replicate 256 0) 0 b;
-        tips = z .tips;
-      };
-      votes = no-votes;
-      entries = replicate 256 0;
-      count = z .count;
-      equivocations = z .equivocations;
-      heard = z .heard;
-      answers = z .answers;
-    }
+    held-at plain (set (replicate 256 false) w true) (replicate 256 0) (replicate 256 (0 ∷ 0 ∷ [])) (replicate 256 0) (set (replicate 256 0) 0 b)
+    (no-votes .times) (no-votes .places) (no-votes .signatures) (no-votes .targets) (no-votes .numbers) (no-votes .seconds) (replicate 256 0) z
 
 is-opened : (w b : ℕ) → w ≡ b → (z : Standing) → z ≡ blank → blanked w b z ≡ opened-held b
 unfolding graph.opened padded

@@ -6,7 +6,9 @@ ghost use lib.ListN.{length, take};
 ghost use Rattle.voter_set.specs.Voters.{new};
 ghost use Rattle.block_table.specs.Add.{opened};
 ghost use Rattle.held_laws.specs.Kept.{Kept};
-ghost use Rattle.held_laws.specs.Reached.{opened-held};
+ghost use Rattle.lent.specs.Moment.{given, before};
+ghost use Rattle.importing.specs.Import.{framed, opened-held};
+ghost use Rattle.importing.specs.Lent.{table-at};
 ghost use Rattle.marks.specs.declared.Mark.the-variants.{Rt, Op};
 ghost use Rattle.marks.specs.declared.Record.the-variants.{Whole};
 ghost use Rattle.marks.specs.Marks.{read};
@@ -15,15 +17,15 @@ ghost use Rattle.turns.specs.Turns.{pairing, growing, voting, opened-round};
 ghost use Rattle.turns.specs.Stands.{Stands};
 ghost use Rattle.feeding.specs.Feeding.{replayed};
 ghost use Rattle.summary.specs.Summary.{summed};
-ghost use Rattle.summing.specs.Summing.{told, of-parts, blank, closed};
+ghost use Rattle.summing.specs.Summing.{told, of-parts, closed};
 use answers::Answers;
 use answers::Heard;
 use blocks::Place;
 use context::Phase;
-use importing::Standing;
 use marks::End;
 use marks::Mark;
 use nodes::Found;
+use sizes::HISTORY;
 use summary::Outcome;
 use summary::Summary;
 use voter_set::Answer;
@@ -108,29 +110,6 @@ fn closed<'a>(
     }
 }
 
-// Nothing recorded, and the base the only node.
-fn blank() -> Standing
-    ensures { λ r. ⌜ r ≡ blank ⌝ }
-{
-    Standing {
-        listed: 0,
-        tips: 1,
-        count: 0,
-        equivocations: [0u64; 2],
-        heard: Heard {
-            prevote: 0,
-            precommit: 0,
-        },
-        answers: Answers {
-            prevote: Found::Nothing,
-            precommit: Found::Nothing,
-            finalized: Found::Nothing,
-            estimate: Found::Nothing,
-            completable: false,
-        },
-    }
-}
-
 // The third turn, on a round that was just opened.
 fn votes(
     voters: VoterSet,
@@ -143,8 +122,8 @@ fn votes(
     records: u64,
     bytes: &[u8],
 ) -> Summary
-    requires { ⌜ Kept (record { number = number; voters = voters; table = record { ids = now ids; numbers = now heights; parents = now parents; count = blocks }; base = base }) (opened-held base) ⌝ }
-    ensures { λ r. ⌜ r ≡ told records (voting (opened-round number voters (record { ids = now (ids .entry); numbers = now (heights .entry); parents = now (parents .entry); count = blocks }) base)) (now (bytes .entry)) ⌝ }
+    requires { ⌜ Kept (framed number voters (table-at given ids heights parents blocks) base) (opened-held base) ⌝ }
+    ensures { λ r. ⌜ r ≡ told records (voting (opened-round number voters (table-at before ids heights parents blocks) base)) (now (bytes .entry)) ⌝ }
 {
     let mut used = [false; 256];
     let mut above = [0u8; 256];
@@ -157,7 +136,7 @@ fn votes(
     let mut targets = [0u32; 128];
     let mut numbers = [0u32; 128];
     let mut seconds = [0u64; 128];
-    let mut entries = [0u8; 256];
+    let mut entries = [0u16; HISTORY];
     let at = climbs::wide(base);
     used[at] = true;
     heads[0] = base;
@@ -185,7 +164,7 @@ fn votes(
         &mut numbers,
         &mut seconds,
         &mut entries,
-        blank(),
+        importing::blank(),
         bytes,
     );
     let standing = ran.standing;
@@ -218,8 +197,8 @@ fn open(
     records: u64,
     part: &[u8],
 ) -> Summary
-    requires { ⌜ Stands Kept (growing voters (record { ids = now ids; numbers = now heights; parents = now parents; count = blocks })) × (read (now part) ≡ Whole Op) ⌝ }
-    ensures { λ r. ⌜ r ≡ told records (growing voters (record { ids = now (ids .entry); numbers = now (heights .entry); parents = now (parents .entry); count = blocks })) (now (part .entry)) ⌝ }
+    requires { ⌜ Stands Kept (growing voters (table-at given ids heights parents blocks)) × (read (now part) ≡ Whole Op) ⌝ }
+    ensures { λ r. ⌜ r ≡ told records (growing voters (table-at before ids heights parents blocks)) (now (part .entry)) ⌝ }
 {
     let fields = marks::fields(part, Mark::Op);
     let number = marks::long(fields, 0);

@@ -3,7 +3,8 @@
 use mathlib.Core.Bool.{Bool, cond, _&&_}
 use mathlib.Core.List.{List}
 use Prim.Native.Nat.{ℕ, zero, suc}
-use lib.Dec.{eqb}
+use lib.Dec.{eqb, ltb}
+use Rattle.layouts.specs.Layout.{entry-index, entry-pair}
 use Rattle.grandpa.specs.Vote.{Vote, silent, once, twice}
 use Rattle.nodes.specs.Nodes.{col}
 use Rattle.tracker.specs.declared.Votes.{Votes}
@@ -46,3 +47,7 @@ cast-of (suc (suc n)) block = twice block
 
 unfoldable pub cast : Votes → ℕ → Vote
 cast v j = cast-of (col (v .times) j) (col (v .places) j)
+
+-- whether the pair that an entry of history stands for is recorded
+abbrev pub paired : List ℕ → ℕ → Bool
+paired counts e = ltb (entry-pair e) (col counts (entry-index e))

@@ -1,8 +1,10 @@
-// What is recorded of a voter in a phase: `VoteTracker` of round.rs, in columns for both phases. The voter at place p has index
-// 2p for its prevotes and 2p + 1 for its precommits, as its bits have.
+// What is recorded of a voter in a phase: `VoteTracker` of round.rs, in columns for both phases. A voter's votes in a phase have an
+// index, which is its bit.
 ghost use mathlib.Core.Path.{_≡_};
 ghost use Prim.Native.Nat.{_<_};
+ghost use Rattle.lent.specs.Moment.{before};
 ghost use Rattle.tracker.specs.Recorded.{same, add-vote, first-pair, recorded};
+ghost use Rattle.tracker.specs.Votes.{votes-at, no-votes};
 
 // How many pairs are recorded at an index, 0, 1 or 2; the place of the first pair's target in the block table, and its
 // signature; the second pair as it came, since its target is not looked up. Unused places are 0.
@@ -34,6 +36,19 @@ pub enum AddVoteResult {
     Duplicated,
     Equivocated(Pair),
     Ignored,
+}
+
+pub fn no_votes() -> Votes
+    ensures { λ r. ⌜ r ≡ no-votes ⌝ }
+{
+    Votes {
+        times: [0u8; 128],
+        places: [0u8; 128],
+        signatures: [0u64; 128],
+        targets: [0u32; 128],
+        numbers: [0u32; 128],
+        seconds: [0u64; 128],
+    }
 }
 
 fn same(a: Pair, b: Pair) -> bool
@@ -104,7 +119,7 @@ pub fn recorded<'a>(
     at: usize,
 ) -> VoteMultiplicity
     requires { ⌜ at < 128 ⌝ }
-    ensures { λ r. ⌜ r ≡ recorded (record { times = now (times .entry); places = now (places .entry); signatures = now (signatures .entry); targets = now (targets .entry); numbers = now (numbers .entry); seconds = now (seconds .entry) }) (now (ids .entry)) (now (heights .entry)) at ⌝ }
+    ensures { λ r. ⌜ r ≡ recorded (votes-at before times places signatures targets numbers seconds) (now (ids .entry)) (now (heights .entry)) at ⌝ }
 {
     let n = times[at];
     if n == 0 {

@@ -26,9 +26,9 @@ use Rattle.block_laws.proofs.Adds.{opened-shaped, found-stands, step-keeps}
 use Rattle.context.specs.declared.Phase.{Phase}
 use Rattle.context.specs.declared.Phase.the-variants.{Prevote, Precommit}
 use Rattle.tracker.specs.declared.Pair.{Pair}
-use Rattle.importing.specs.Import.{Frame, Held, import}
+use Rattle.importing.specs.Import.{Frame, framed, with-table, Held, opened-held, import}
 use Rattle.held_laws.specs.Kept.{Kept}
-use Rattle.held_laws.specs.Reached.{opened-held, Opens, Reached, with-table}
+use Rattle.held_laws.specs.Reached.{Opens, Reached}
 use Rattle.held_laws.proofs.Opens.{opened-kept}
 use Rattle.held_laws.proofs.Keeps.{import-keeps}
 use Rattle.held_laws.proofs.Adds.{adding-keeps}
@@ -142,7 +142,7 @@ module _ (P : Frame → Held → Type 0)
       go : (o : Place) → place-of (t .ids) (t .count) (word fs 8) ≡ o
           → Then (Stands P) (on-place o (λ b. goes (voting (opened-round (long fs 0) v t b))) (stops 10))
       go (At b) e =
-          opens (record { number = long fs 0; voters = v; table = t; base = b })
+          opens (framed (long fs 0) v t b)
           (record { good = g; fits = l; table = s; in-table = found-stands t s (word fs 8) b e .inside })
       go Nothing e = tt
 

@@ -3,7 +3,7 @@ use mathlib.Core.Bool.{Bool, not, _||_}
 use mathlib.Core.List.{List}
 use mathlib.Core.Path.{_≡_, refl, sym, ap, subst, _∙_}
 use mathlib.Core.Logic.{_⊎_, inl, inr}
-use Prim.Native.Nat.{ℕ, zero, suc, _+_, _*_, _≤_, _<_}
+use Prim.Native.Nat.{ℕ, zero, suc, _+_, _≤_, _<_}
 use native.Mathlib.Decide.{ℕ-discrete}
 use native.Mathlib.Omega.{arith}
 use lib.Dec.{T, eqb, leb, leb→le}
@@ -12,7 +12,10 @@ use Rattle.loops.proofs.Tests.{left-of, right-of, either}
 use Rattle.loops.proofs.Alls.{all-at}
 use Rattle.loops.proofs.Sums.{weigh-cong}
 use Rattle.grandpa.specs.Vote.{Vote, silent, once, twice, equivocated}
-use Rattle.grandpa.specs.Views.{differ, differ-from, targets-differ, two-views}
+use Rattle.grandpa.specs.Views.{differ, differ-from, two-views, targets-differ}
+use Rattle.context.specs.declared.Phase.the-variants.{Precommit}
+use Rattle.context.specs.Votes.{bit}
+use Rattle.context.proofs.Places.{bit-few}
 use Rattle.graph.specs.Shape.{Targets}
 use Rattle.blocks.specs.declared.BlockTable.{BlockTable}
 use Rattle.voter_set.specs.Good.{good}
@@ -100,6 +103,9 @@ views-by-id a b s t o =
     few : a .context .voters .count ≤ 64
     few = voters-good a s .few
 
+    in-words : (p : ℕ) → p < a .context .voters .count → bit Precommit p < 128
+    in-words p h = bit-few Precommit p (omega (arith, few))
+
     apart : (x y : ℕ) → x < a .table .count → y < a .table .count → col (a .table .ids) x ≡ col (a .table .ids) y → x ≡ y
     apart x y h k e =
         graph-kept a s .table .distinct (col (a .table .ids) y) x y (record { inside = h; named = e }) (record { inside = k; named = refl })
@@ -112,4 +118,4 @@ views-by-id a b s t o =
     here =
         weigh-cong (a .context .voters .count) (voters a .weight) _ _
         (λ p h. differ-by (a .table .ids) (a .table .count) apart (precommits a p) (precommits b p)
-        (target-tabled a s (2 * p + 1) (omega (arith, few))) (inside (2 * p + 1) (omega (arith, few))))
+        (target-tabled a s (bit Precommit p) (in-words p h)) (inside (bit Precommit p) (in-words p h)))

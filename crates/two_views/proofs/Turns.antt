@@ -3,7 +3,7 @@ use mathlib.Core.Bool.{Bool, true, false, cond, not}
 use mathlib.Core.List.{List}
 use mathlib.Core.Path.{_≡_, refl, ap, _∙_}
 use mathlib.Core.Logic.{_≢_}
-use Prim.Native.Nat.{ℕ, zero, suc, _+_, _*_, _≤_, _<_}
+use Prim.Native.Nat.{ℕ, zero, suc, _+_, _≤_, _<_}
 use native.Mathlib.Omega.{arith}
 use lib.Dec.{eqb}
 use lib.ListN.{length, getD}
@@ -12,8 +12,10 @@ use Rattle.loops.specs.All.{all}
 use Rattle.loops.proofs.Alls.{all-false}
 use Rattle.loops.proofs.Sums.{sum-none, sum-more}
 use Rattle.weights.specs.Weights.{plus}
-use Rattle.grandpa.specs.Vote.{silent}
-use Rattle.grandpa.specs.Views.{differ}
+use Rattle.grandpa.specs.Vote.{Vote, silent}
+use Rattle.grandpa.specs.Views.{differ, differ-from}
+use Rattle.context.specs.declared.Phase.the-variants.{Precommit}
+use Rattle.context.specs.Votes.{bit}
 use Rattle.nodes.specs.Nodes.{col}
 use Rattle.tracker.specs.Recorded.{cast-of}
 use Rattle.two_views.specs.Views.{apart, differing, same}
@@ -66,19 +68,19 @@ module _ (times places others theirs : List ℕ) where
   module _ (weights : List ℕ) where
     pub differing-none : 0 ≡ differing times places others theirs weights 0
     unfolding differing
-    differing-none = omega (arith, sum-none (λ p. cond (apart times places others theirs (2 * p + 1)) (getD weights p 0) 0))
+    differing-none = omega (arith, sum-none (λ p. cond (apart times places others theirs (bit Precommit p)) (getD weights p 0) 0))
 
-    pub differing-skip : (k : ℕ) → apart times places others theirs (2 * k + 1) ≡ false
+    pub differing-skip : (k : ℕ) → apart times places others theirs (bit Precommit k) ≡ false
         → differing times places others theirs weights k ≡ differing times places others theirs weights (k + 1)
     unfolding differing
     differing-skip k e =
-        omega (arith, sum-more k (λ p. cond (apart times places others theirs (2 * p + 1)) (getD weights p 0) 0), ap (λ (b : Bool). cond b (getD weights k 0) 0) e)
+        omega (arith, sum-more k (λ p. cond (apart times places others theirs (bit Precommit p)) (getD weights p 0) 0), ap (λ (b : Bool). cond b (getD weights k 0) 0) e)
 
-    pub differing-more : (k : ℕ) → apart times places others theirs (2 * k + 1) ≡ true
+    pub differing-more : (k : ℕ) → apart times places others theirs (bit Precommit k) ≡ true
         → plus (differing times places others theirs weights k) (getD weights k 0) ≡ differing times places others theirs weights (k + 1)
     unfolding differing
     differing-more k e =
-        omega (arith, sum-more k (λ p. cond (apart times places others theirs (2 * p + 1)) (getD weights p 0) 0), ap (λ (b : Bool). cond b (getD weights k 0) 0) e)
+        omega (arith, sum-more k (λ p. cond (apart times places others theirs (bit Precommit p)) (getD weights p 0) 0), ap (λ (b : Bool). cond b (getD weights k 0) 0) e)
 
 -- the comparison of two columns
 module _ (xs ys : List ℕ) where

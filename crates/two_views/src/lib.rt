@@ -4,6 +4,7 @@ ghost use mathlib.Core.Path.{_≡_};
 ghost use Prim.Native.Nat.{_≤_, _<_};
 ghost use Rattle.two_views.specs.Views.{apart, differing, same, same-voters, same-table, agree, views};
 use blocks::BlockTable;
+use context::Phase;
 use round::Round;
 use voter_set::VoterSet;
 use weights::VoteWeight;
@@ -42,7 +43,7 @@ fn differs<'a>(
 }
 
 // The weight of the voters whose precommits differ so, each once, on lent columns; `others` and `theirs` are the times and places of the
-// other view. A voter's precommits stand at twice its place and one.
+// other view.
 pub fn differing<'a>(
     times: &'a [u8; 128],
     places: &'a [u8; 128],
@@ -56,7 +57,8 @@ pub fn differing<'a>(
 {
     let mut sum = 0;
     for voter in 0..size {
-        if !differs(times, places, others, theirs, 2 * voter + 1) {
+        let at = context::index(voter, Phase::Precommit);
+        if !differs(times, places, others, theirs, at) {
             continue;
         }
         let more = VoteWeight(sum).add(VoteWeight(weights[voter]));

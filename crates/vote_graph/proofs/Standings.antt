@@ -32,10 +32,10 @@ use Rattle.vote_search.proofs.Ancestors.{tallied-is}
 use Rattle.vote_graph.specs.declared.VoteGraph.{VoteGraph}
 use Rattle.vote_graph.specs.declared.named.Target.{Target}
 use Rattle.vote_graph.specs.declared.named.Target.the-variants.{At, Refused}
-use Rattle.vote_graph.specs.Shape.{columns, graph-of, is-graph, Standing}
+use Rattle.vote_graph.specs.Shape.{lent, columns, graph-with, graph-of, is-graph, Standing}
 use Rattle.vote_graph.specs.Target.{in-base, target, start, on-target}
 use Rattle.vote_graph.specs.Calls.{voted, tally-of, ancestor-of, ghost-of}
-use Rattle.vote_graph.proofs.Shapes.{lent, Kept, is-graph-means}
+use Rattle.vote_graph.proofs.Shapes.{Kept, is-graph-means}
 
 at-most-one : {n k : ℕ} → _≡_ {A = Target} (Refused n) (At k) → ⊥
 at-most-one e = let z : _≡_ {A = ℕ} 0 1 = cc in omega arith
@@ -112,7 +112,7 @@ module _ (g : VoteGraph) (t : BlockTable) (k : ℕ) (s : Standing g t k) (w : Li
   pub standing-rows : (bit : ℕ) (n : Columns) → n ≡ inserted (t .parents) (t .ids) (g .base) k bit (lent g w) → length (n .rows) ≡ 256
   standing-rows bit n q =
       ap (λ (c : Columns). length (c .rows)) q
-      ∙ sound-inserted (t .parents) (t .ids) (g .base) (t .count) k (s .in-base) (s .inside) (lent g w) sound-lent (apart-in g t k s) bit .rows-size
+      ∙ sound-inserted (t .parents) (t .ids) (g .base) (t .count) k (s .in-base) (s .inside) (lent g w) sound-lent (apart-in g t k s) bit .sized .rows-size
 
   pub standing-stands : Stands (t .parents) (g .base) (lent g w) k
   standing-stands = record { ids = t .ids; count = t .count; sound = sound-lent; in-base = s .in-base }
@@ -122,11 +122,10 @@ module _ (g : VoteGraph) (t : BlockTable) (k : ℕ) (s : Standing g t k) (w : Li
 
 module _ (g : VoteGraph) (t : BlockTable) (k : ℕ) (w : List (List ℕ)) (e : w ≡ words-of (g .rows)) where
   pub voted-is : (bit : ℕ) (n : Columns) → n ≡ inserted (t .parents) (t .ids) (g .base) k bit (lent g w) → (rs : List Row) → rs ≡ rows-of (n .rows)
-      → _≡_ {A = VoteGraph} (record { base = g .base; used = n .used; above = n .above; rows = rs; order = n .order; listed = n .listed; heads = n .heads; tips = n .tips })
-      (voted g t k bit)
+      → graph-with (g .base) n rs ≡ voted g t k bit
   unfolding voted
   voted-is bit n q rs r =
-      ap (λ (v : List Row). record { base = g .base; used = n .used; above = n .above; rows = v; order = n .order; listed = n .listed; heads = n .heads; tips = n .tips }) r
+      ap (graph-with (g .base) n) r
       ∙ ap (graph-of (g .base)) q
       ∙ ap (λ (v : List (List ℕ)). graph-of (g .base) (inserted (t .parents) (t .ids) (g .base) k bit (lent g v))) e
 

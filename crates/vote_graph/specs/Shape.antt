@@ -1,6 +1,7 @@
 -- The vote graph by value and its shape. Document 01, "Shape rules", "Refusal numbers" 9: a graph stands on a table, and
 -- both keep their rules.
 use mathlib.Core.Bool.{Bool, _&&_}
+use mathlib.Core.List.{List}
 use Prim.Native.Nat.{ℕ, _<_}
 use lib.Dec.{T, eqb}
 use lib.ListN.{length}
@@ -11,26 +12,33 @@ use Rattle.block_shape.specs.Shape.{tabled}
 use Rattle.nodes.specs.Nodes.{col, row}
 use Rattle.nodes.specs.Columns.{Columns}
 use Rattle.graph_shape.specs.Graphed.{graphed}
+use Rattle.graph_rows.specs.declared.Row.{Row}
 use Rattle.graph_rows.specs.Rows.{words-of, rows-of}
 use Rattle.vote_graph.specs.declared.VoteGraph.{VoteGraph}
 
--- the columns that a graph holds
-abbrev pub columns : VoteGraph → Columns
-columns g =
-    record { used = g .used; above = g .above; rows = words-of (g .rows); order = g .order; listed = g .listed; heads = g .heads; tips = g .tips }
+-- the columns of a graph with words beside it, as code lends them; with the words of its rows, the columns that it holds
+abbrev pub lent : VoteGraph → List (List ℕ) → Columns
+lent g w = record { used = g .used; above = g .above; rows = w; order = g .order; listed = g .listed; heads = g .heads; tips = g .tips }
 
-abbrev pub graph-of : ℕ → Columns → VoteGraph
-graph-of base c =
+abbrev pub columns : VoteGraph → Columns
+columns g = lent g (words-of (g .rows))
+
+-- a graph of columns with rows beside them, as code makes it; with the rows of their words, the graph that they hold
+abbrev pub graph-with : ℕ → Columns → List Row → VoteGraph
+graph-with base c rows =
     record {
       base = base;
       used = c .used;
       above = c .above;
-      rows = rows-of (c .rows);
+      rows = rows;
       order = c .order;
       listed = c .listed;
       heads = c .heads;
       tips = c .tips;
     }
+
+abbrev pub graph-of : ℕ → Columns → VoteGraph
+graph-of base c = graph-with base c (rows-of (c .rows))
 
 -- arrays of 256, rows of two words, which the types say of a graph in code
 unfoldable pub sized : Columns → Bool

@@ -72,10 +72,14 @@ module _ (parents ids : List ℕ) (falls : Falls parents) (base count : ℕ) (in
         tied = λ x u n. absurd (n (only x u));
         listed-fits = omega arith;
         tips-fit = omega arith;
-        used-size = simp length-set;
-        above-size = refl;
-        rows-size = refl;
-        row-size = λ x h. ap length (getD-replicate 256 x (0 ∷ 0 ∷ []) [] h);
+        sized = record {
+          used-size = simp length-set;
+          above-size = refl;
+          rows-size = refl;
+          row-size = λ x h. ap length (getD-replicate 256 x (0 ∷ 0 ∷ []) [] h);
+          order-size = refl;
+          heads-size = refl;
+        };
         order-clear = refl;
         heads-clear = refl;
       }

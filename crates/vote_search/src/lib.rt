@@ -4,7 +4,8 @@ ghost use mathlib.Core.List.{List};
 ghost use Prim.Native.Nat.{ℕ, _≤_};
 ghost use Rattle.graph.specs.Ghost.{find-ancestor, descend, find-ghost};
 ghost use Rattle.nodes.specs.Nodes.{col, Falls, placed, passes};
-ghost use Rattle.nodes.specs.Columns.{view, as-found};
+ghost use Rattle.lent.specs.Moment.{given, before, plain};
+ghost use Rattle.nodes.specs.Columns.{graph-at, view, as-found};
 ghost use Rattle.vote_search.specs.Searches.{tallied, followed, Stands, unlisted, unheaded, or-else, this, both};
 use climbs::wide;
 use context::Phase;
@@ -70,7 +71,7 @@ pub fn find_ancestor<'a>(
     question: Question,
     block: u8,
 ) -> Found
-    requires { ⌜ ((order : List ℕ) × (listed : ℕ) × Stands (now parents) base (record { used = now used; above = now above; rows = now rows; order = order; listed = listed; heads = now heads; tips = tips }) block) ⌝ }
+    requires { ⌜ ((order : List ℕ) × (listed : ℕ) × Stands (now parents) base (graph-at plain (now used) (now above) (now rows) order listed (now heads) tips) block) ⌝ }
     ensures { λ r. ⌜ r ≡ as-found (find-ancestor (col (now (parents .entry))) (unlisted (now (used .entry)) (now (rows .entry)) (now (heads .entry)) tips) base (passes (now (weights .entry)) question) block) ⌝ }
 {
     let mut at = block;
@@ -121,7 +122,7 @@ pub fn find_both<'a>(
     still: PossibleToPrecommit,
     block: u8,
 ) -> Both
-    requires { ⌜ ((order : List ℕ) × (listed : ℕ) × Stands (now parents) base (record { used = now used; above = now above; rows = now rows; order = order; listed = listed; heads = now heads; tips = tips }) block) ⌝ }
+    requires { ⌜ ((order : List ℕ) × (listed : ℕ) × Stands (now parents) base (graph-at plain (now used) (now above) (now rows) order listed (now heads) tips) block) ⌝ }
     ensures { λ r. ⌜ r ≡ both (col (now (parents .entry))) (unlisted (now (used .entry)) (now (rows .entry)) (now (heads .entry)) tips) base (now (weights .entry)) equivocations still block ⌝ }
 {
     let mut possible = Found::Nothing;
@@ -190,7 +191,7 @@ pub fn descend<'a>(
     question: Question,
     block: u8,
 ) -> u8
-    requires { ⌜ ((heads : List ℕ) × (tips : ℕ) × (base : ℕ) × Stands (now parents) base (record { used = now used; above = now above; rows = now rows; order = now order; listed = listed; heads = heads; tips = tips }) block) ⌝ }
+    requires { ⌜ ((heads : List ℕ) × (tips : ℕ) × (base : ℕ) × Stands (now parents) base (graph-at plain (now used) (now above) (now rows) (now order) listed heads tips) block) ⌝ }
     ensures { λ r. ⌜ r ≡ descend (col (now (parents .entry))) (unheaded (now (used .entry)) (now (rows .entry)) (now (order .entry)) listed) (passes (now (weights .entry)) question) block ⌝ }
 {
     let follow = following(parents, used, above, order, listed, block);
@@ -226,8 +227,8 @@ pub fn find_ghost<'a>(
     question: Question,
     block: u8,
 ) -> Found
-    requires { ⌜ ((base : ℕ) × Stands (now parents) base (record { used = now used; above = now above; rows = now rows; order = now order; listed = listed; heads = now heads; tips = tips }) block) ⌝ }
-    ensures { λ r. ⌜ r ≡ as-found (find-ghost (col (now (parents .entry))) (view (record { used = now (used .entry); above = now (above .entry); rows = now (rows .entry); order = now (order .entry); listed = listed; heads = now (heads .entry); tips = tips })) (passes (now (weights .entry)) question) block) ⌝ }
+    requires { ⌜ ((base : ℕ) × Stands (now parents) base (graph-at given used above rows order listed heads tips) block) ⌝ }
+    ensures { λ r. ⌜ r ≡ as-found (find-ghost (col (now (parents .entry))) (view (graph-at before used above rows order listed heads tips)) (passes (now (weights .entry)) question) block) ⌝ }
 {
     let start = cumulative_vote(parents, used, above, rows, heads, tips, block);
     let bits = start.bits;

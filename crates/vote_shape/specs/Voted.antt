@@ -1,20 +1,23 @@
 -- The shape rules that tie the recorded votes to what is kept beside them, as a test. Document 01, "Shape rules": counts within
 -- sizes; vote-nodes are the base and the targets of first votes, one each and no others; history one entry for each recorded
 -- pair; node bits (first votes only) and equivocator bits as the recorded votes say; unused places 0. Index j of the columns
--- of votes is 2p for the prevotes of the voter at place p and 2p + 1 for its precommits, as its bits are.
+-- of votes is the bit of its voter and phase.
 use mathlib.Core.Bool.{Bool, not, _&&_, _||_}
 use mathlib.Core.List.{List, [], _∷_, _++_}
-use Prim.Native.Nat.{ℕ, zero, suc, _/_, _%_}
+use Prim.Native.Nat.{ℕ, zero, suc}
 use lib.Dec.{eqb, leb, ltb}
+use Rattle.sizes.specs.Sizes.{HISTORY}
+use Rattle.layouts.specs.Layout.{index-place}
 use Rattle.loops.specs.All.{all, any}
 use Rattle.nodes.specs.Nodes.{col, flag}
 use Rattle.graph_lists.specs.Listed.{laid}
 use Rattle.vote_bits.specs.Told.{aims, told, doubled}
 use Rattle.tracker.specs.declared.Votes.{Votes}
+use Rattle.tracker.specs.Recorded.{paired}
 
 -- no, one or two pairs, and none of a voter past the last
 abbrev pub counted : ℕ → ℕ → ℕ → Bool
-counted size j n = leb n 2 && (ltb (j / 2) size || eqb n 0)
+counted size j n = leb n 2 && (ltb (index-place j) size || eqb n 0)
 
 -- with no first pair its places are 0
 abbrev pub first-clear : ℕ → ℕ → ℕ → Bool
@@ -55,13 +58,9 @@ unfoldable pub noded : ℕ → List Bool → List ℕ → List ℕ → Bool
 noded base used counts places =
     flag used base && (targets-used used counts places && only-marked used (marks 256 (noted base counts places)))
 
--- an entry of the history stands for the first or second pair of an index, and this pair is recorded
-abbrev pub paired : List ℕ → ℕ → Bool
-paired counts e = ltb (e % 2) (col counts (e / 2))
-
 -- the first `count` entries are the recorded pairs, once each, and the rest 0
 unfoldable pub written : List ℕ → List ℕ → ℕ → Bool
-written counts entries count = leb count 256 && laid entries count (marks 256 (paired counts))
+written counts entries count = leb count HISTORY && laid HISTORY entries count (marks HISTORY (paired counts))
 
 -- the whole test
 unfoldable pub voted : ℕ → List ℕ → ℕ → List Bool → List (List ℕ) → Votes → List ℕ → List ℕ → ℕ → Bool

@@ -2,11 +2,16 @@
 // in linear time.
 ghost use mathlib.Core.Path.{_≡_};
 ghost use mathlib.Core.Bool.{not, _||_};
-ghost use Prim.Native.Nat.{_%_};
+ghost use Prim.Native.Nat.{_<_};
 ghost use lib.Dec.{leb, ltb};
+ghost use Rattle.lent.specs.Moment.{before};
 ghost use Rattle.nodes.specs.Nodes.{Falls};
-ghost use Rattle.vote_shape.specs.Voted.{counted, first-clear, second-clear, tidy, marks, noted, targets-used, only-marked, noded, paired, written, voted};
+ghost use Rattle.tracker.specs.Votes.{votes-at};
+ghost use Rattle.vote_shape.specs.Voted.{counted, first-clear, second-clear, tidy, marks, noted, targets-used, only-marked, noded, written, voted};
+ghost use Rattle.sizes.specs.Sizes.{VOTES, HISTORY};
+ghost use Rattle.tracker.specs.Recorded.{paired};
 use climbs::wide;
+use sizes::HISTORY;
 
 // Whether the recorded votes of `size` voters and what is kept beside them keep their shape rules.
 pub fn is_voted<'a>(
@@ -22,11 +27,12 @@ pub fn is_voted<'a>(
     numbers: &'a [u32; 128],
     seconds: &'a [u64; 128],
     equivocations: [u64; 2],
-    entries: &'a [u8; 256],
+    entries: &'a [u16; HISTORY],
     count: usize,
 ) -> bool
     requires { ⌜ Falls (now parents) ⌝ }
-    ensures { λ r. ⌜ r ≡ voted size (now (parents .entry)) base (now (used .entry)) (now (rows .entry)) (record { times = now (times .entry); places = now (places .entry); signatures = now (signatures .entry); targets = now (targets .entry); numbers = now (numbers .entry); seconds = now (seconds .entry) }) equivocations (now (entries .entry)) count ⌝ }
+    ensures { λ r. ⌜ r ≡ voted size (now (parents .entry)) base (now (used .entry)) (now (rows .entry))
+        (votes-at before times places signatures targets numbers seconds) equivocations (now (entries .entry)) count ⌝ }
 {
     if !tidy(size, times, places, signatures, targets, numbers, seconds) {
         return false;
@@ -52,7 +58,7 @@ fn tidy<'a>(
     numbers: &'a [u32; 128],
     seconds: &'a [u64; 128],
 ) -> bool
-    ensures { λ r. ⌜ r ≡ tidy size (record { times = now (times .entry); places = now (places .entry); signatures = now (signatures .entry); targets = now (targets .entry); numbers = now (numbers .entry); seconds = now (seconds .entry) }) ⌝ }
+    ensures { λ r. ⌜ r ≡ tidy size (votes-at before times places signatures targets numbers seconds) ⌝ }
 {
     for j in 0..128 {
         let n = times[j];
@@ -70,12 +76,13 @@ fn tidy<'a>(
 }
 
 fn is_counted(size: usize, j: usize, n: u8) -> bool
+    requires { ⌜ j < VOTES ⌝ }
     ensures { λ r. ⌜ r ≡ counted size j n ⌝ }
 {
     if 2 < n {
         return false;
     }
-    if j / 2 < size {
+    if layouts::index_place(j) < size {
         return true;
     }
     n == 0
@@ -178,29 +185,30 @@ fn is_marked(node: bool, mark: bool) -> bool
     mark
 }
 
-fn written<'a>(times: &'a [u8; 128], entries: &'a [u8; 256], count: usize) -> bool
+fn written<'a>(times: &'a [u8; 128], entries: &'a [u16; HISTORY], count: usize) -> bool
     ensures { λ r. ⌜ r ≡ written (now (times .entry)) (now (entries .entry)) count ⌝ }
 {
-    if 256 < count {
+    if HISTORY < count {
         return false;
     }
     let pairs = pairs(times);
-    graph_lists::laid(entries, count, &pairs)
+    entry_lists::laid(entries, count, &pairs)
 }
 
-// Entry 2j is the first pair of index j, entry 2j + 1 its second.
-fn pairs(times: &[u8; 128]) -> [bool; 256]
-    ensures { λ r. ⌜ r ≡ marks 256 (paired (now (times .entry))) ⌝ }
+// The entries of the recorded pairs.
+fn pairs(times: &[u8; 128]) -> [bool; HISTORY]
+    ensures { λ r. ⌜ r ≡ marks HISTORY (paired (now (times .entry))) ⌝ }
 {
-    let mut marks = [false; 256];
-    for e in 0..256 {
-        marks[e] = is_paired(e, times[e / 2]);
+    let mut marks = [false; HISTORY];
+    for e in 0..HISTORY {
+        marks[e] = is_paired(times, e as u16);
     }
     marks
 }
 
-fn is_paired(e: usize, n: u8) -> bool
-    ensures { λ r. ⌜ r ≡ ltb (e % 2) n ⌝ }
+fn is_paired(times: &[u8; 128], entry: u16) -> bool
+    requires { ⌜ entry < HISTORY ⌝ }
+    ensures { λ r. ⌜ r ≡ paired (now (times .entry)) entry ⌝ }
 {
-    e % 2 < wide(n)
+    layouts::entry_pair(entry) < wide(times[layouts::entry_index(entry)])
 }

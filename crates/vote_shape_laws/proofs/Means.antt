@@ -2,13 +2,17 @@
 use mathlib.Core.Bool.{Bool, true, _&&_}
 use mathlib.Core.List.{List}
 use mathlib.Core.Path.{_≡_}
-use Prim.Native.Nat.{ℕ}
+use Prim.Native.Nat.{ℕ, _<_}
 use lib.Dec.{T}
+use lib.ListN.{length}
+use Rattle.sizes.specs.Sizes.{BLOCKS, WORDS, HISTORY}
 use Rattle.loops.proofs.Tests.{T-true, true-T, both, left-of, right-of}
+use Rattle.nodes.specs.Nodes.{row}
 use Rattle.tracker.specs.declared.Votes.{Votes}
+use Rattle.tracker.specs.Votes.{Wide}
 use Rattle.vote_bits.specs.Told.{told, doubled}
 use Rattle.vote_shape.specs.Voted.{tidy, noded, written, voted}
-use Rattle.vote_shape_laws.specs.Recorded.{Recorded, Wide, Beside}
+use Rattle.vote_shape_laws.specs.Recorded.{Recorded}
 use Rattle.vote_shape_laws.proofs.Tidies.{tidy-says, says-tidy}
 use Rattle.vote_shape_laws.proofs.Nodes.{noded-says, says-noded, told-says, says-told, doubled-says, says-doubled}
 use Rattle.vote_shape_laws.proofs.Histories.{written-says, says-written}
@@ -45,22 +49,24 @@ module _ (size : ℕ) (parents : List ℕ) (base : ℕ) (used : List Bool) (rows
       (both (told parents used rows (v .times) (v .places)) _ (p .tells)
       (both (doubled (v .times) equivocations) _ (p .doubles) (p .writes))))
 
-  module _ (w : Wide v) (b : Beside used rows equivocations entries) where
+  module _ (w : Wide v) (used-size : length used ≡ BLOCKS) (row-size : (x : ℕ) → x < BLOCKS → length (row rows x) ≡ WORDS)
+      (words : length equivocations ≡ WORDS) (entries-size : length entries ≡ HISTORY) where
     recorded : Passed → Recorded size parents base used rows v equivocations entries count
     recorded p =
-        let n = noded-says base used v (w .times-size) (b .used-size) (p .nodes) in
+        let n = noded-says base used v (w .times-size) used-size (p .nodes) in
         record {
           tidy = tidy-says size v w (p .tidies);
           base-used = n .0;
           nodes-voted = n .1;
-          bits = told-says parents used rows v (w .times-size) (b .used-size) (b .row-size) (p .tells);
-          equivocators = (b .words, doubled-says v equivocations (w .times-size) (b .words) (p .doubles));
-          history = written-says v (w .times-size) entries count (b .entries-size) (p .writes);
+          nodes-only = n .2;
+          bits = told-says parents used rows v (w .times-size) used-size row-size (p .tells);
+          equivocators = (words, doubled-says v equivocations (w .times-size) words (p .doubles));
+          history = written-says v (w .times-size) entries count entries-size (p .writes);
         }
 
-  pub voted-means : Wide v → Beside used rows equivocations entries → voted size parents base used rows v equivocations entries count ≡ true
-      → Recorded size parents base used rows v equivocations entries count
-  voted-means w b e = recorded w b (passed (T-true e))
+    pub voted-means : voted size parents base used rows v equivocations entries count ≡ true
+        → Recorded size parents base used rows v equivocations entries count
+    voted-means e = recorded (passed (T-true e))
 
   pub means-voted : Wide v → Recorded size parents base used rows v equivocations entries count
       → voted size parents base used rows v equivocations entries count ≡ true
@@ -69,7 +75,7 @@ module _ (size : ℕ) (parents : List ℕ) (base : ℕ) (used : List Bool) (rows
       (passes
       (record {
         tidies = says-tidy size v (r .tidy);
-        nodes = says-noded base used v (w .times-size) (r .base-used) (r .nodes-voted);
+        nodes = says-noded base used v (w .times-size) (r .base-used) (r .nodes-voted) (r .nodes-only);
         tells = says-told parents used rows v (r .bits);
         doubles = says-doubled v equivocations (r .equivocators .1);
         writes = says-written v (w .times-size) entries count (r .history);

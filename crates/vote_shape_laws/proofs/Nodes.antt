@@ -15,7 +15,7 @@ use Rattle.loops.proofs.Alls.{all-at, all-intro, any-at, any-intro}
 use Rattle.grandpa.specs.Vote.{lands, equivocated}
 use Rattle.bitfield.specs.Bits.{has}
 use Rattle.bitfield.proofs.Sets.{has-past}
-use Rattle.graph.specs.Shape.{Targets, Bits, Voted}
+use Rattle.graph.specs.Shape.{Targets, Bits, Voted, Used-only}
 use Rattle.nodes.specs.Nodes.{col, flag, row}
 use Rattle.tracker.specs.declared.Votes.{Votes}
 use Rattle.tracker.specs.Recorded.{cast}
@@ -78,8 +78,7 @@ module _ (base : ℕ) (used : List Bool) (v : Votes) (s : length (v .times) ≡ 
           (any-intro (aims (v .times) (v .places) x) 128 (r .0) (spoken-in v (r .0) s (q .0))
           (both (ltb 0 (col (v .times) (r .0))) _ (T-true (lt-ltb 0 (col (v .times) (r .0)) (q .0))) (T-true (eq-eqb (col (v .places) (r .0)) x (q .1)))))
 
-  only-says : length used ≡ 256 → T (only-marked used (marks 256 (noted base (v .times) (v .places)))) → (x : ℕ) → T (flag used x) → x ≢ base
-      → (j : ℕ) × Targets (cast v j) x
+  only-says : length used ≡ 256 → T (only-marked used (marks 256 (noted base (v .times) (v .places)))) → Used-only base (cast v) (flag used)
   unfolding only-marked
   only-says w t x u n = go (either (not (flag used x)) _ (all-at _ 256 t x (marked-in used x w u)))
     where
@@ -87,8 +86,7 @@ module _ (base : ℕ) (used : List Bool) (v : Votes) (s : length (v .times) ≡ 
       go (inl m) = absurd (T-not (flag used x) m u)
       go (inr m) = noted-says x (subst T (marks-at (noted base (v .times) (v .places)) 256 x (marked-in used x w u)) m) n
 
-  says-only : ((x : ℕ) → T (flag used x) → x ≢ base → (j : ℕ) × Targets (cast v j) x)
-      → T (only-marked used (marks 256 (noted base (v .times) (v .places))))
+  says-only : Used-only base (cast v) (flag used) → T (only-marked used (marks 256 (noted base (v .times) (v .places))))
   unfolding only-marked
   says-only f = all-intro _ 256 (λ x h. go x h (decT (flag used x)))
     where
@@ -98,21 +96,20 @@ module _ (base : ℕ) (used : List Bool) (v : Votes) (s : length (v .times) ≡ 
           (subst T (sym (marks-at (noted base (v .times) (v .places)) 256 x h)) (says-noted x (f x u)))
       go x h (no m) = in-left (not (flag used x)) _ (not-T (flag used x) m)
 
-  pub noded-says : length used ≡ 256 → T (noded base used (v .times) (v .places)) → T (flag used base) × Voted base (cast v) (flag used)
+  pub noded-says : length used ≡ 256 → T (noded base used (v .times) (v .places))
+      → T (flag used base) × Voted (cast v) (flag used) × Used-only base (cast v) (flag used)
   unfolding noded
   noded-says w t =
       let a = right-of (flag used base) _ t in (
         left-of (flag used base) _ t,
-        record {
-          target-used = targets-says (left-of (targets-used used (v .times) (v .places)) _ a);
-          used-only = only-says w (right-of (targets-used used (v .times) (v .places)) _ a);
-        },
+        record { target-used = targets-says (left-of (targets-used used (v .times) (v .places)) _ a) },
+        only-says w (right-of (targets-used used (v .times) (v .places)) _ a),
       )
 
-  pub says-noded : T (flag used base) → Voted base (cast v) (flag used) → T (noded base used (v .times) (v .places))
+  pub says-noded : T (flag used base) → Voted (cast v) (flag used) → Used-only base (cast v) (flag used) → T (noded base used (v .times) (v .places))
   unfolding noded
-  says-noded u q =
-      both (flag used base) _ u (both (targets-used used (v .times) (v .places)) _ (says-targets (q .target-used)) (says-only (q .used-only)))
+  says-noded u q only =
+      both (flag used base) _ u (both (targets-used used (v .times) (v .places)) _ (says-targets (q .target-used)) (says-only only))
 
 module _ (parents : List ℕ) (used : List Bool) (rows : List (List ℕ)) (v : Votes) where
   pub told-says : length (v .times) ≡ 128 → length used ≡ 256 → ((x : ℕ) → x < 256 → length (row rows x) ≡ 2)

@@ -3,13 +3,14 @@ use mathlib.Core.Bool.{Bool, true, false, cond, _&&_}
 use mathlib.Core.List.{List, []}
 use mathlib.Core.Path.{_≡_, refl, sym, ap, subst, _∙_}
 use mathlib.Core.Logic.{_≢_}
-use Prim.Native.Nat.{ℕ, zero, suc, _/_, _%_, _≤_, _<_}
+use Prim.Native.Nat.{ℕ, zero, suc, _≤_, _<_}
 use native.Mathlib.Decide.{ℕ-discrete}
 use native.Mathlib.Omega.{arith}
 use lib.Dec.{T, ltb}
 use lib.ListN.{getD, set, length, replicate, length-replicate, getD-replicate}
 use lib.Seq.{getD-set-same, getD-set-other}
 use borrow.Author.Tests.{le-ltb}
+use Rattle.layouts.specs.Layout.{entry-index, entry-pair}
 use Rattle.loops.specs.Listing.{times, front}
 use Rattle.loops.proofs.Tests.{T-true}
 use Rattle.loops.proofs.Listings.{times-none}
@@ -22,8 +23,9 @@ use Rattle.graph.specs.Graph.{no-bits}
 use Rattle.graph.specs.Shape.{Targets}
 use Rattle.nodes.specs.Nodes.{col, flag, row}
 use Rattle.vote_insert.specs.Insert.{opened}
-use Rattle.tracker.specs.Recorded.{cast}
-use Rattle.vote_shape_laws.specs.Recorded.{Tidy, has-pair, Written, Recorded, Wide, no-votes}
+use Rattle.tracker.specs.Recorded.{cast, paired}
+use Rattle.tracker.specs.Votes.{Wide, no-votes}
+use Rattle.vote_shape_laws.specs.Recorded.{Tidy, Written, Recorded}
 use Rattle.vote_shape_laws.proofs.Casts.{lands-cast, twice-cast, aim-cast}
 
 blank : {A : Type 0} (x : A) (n k : ℕ) → getD (replicate n x) k x ≡ x
@@ -31,7 +33,7 @@ blank x zero k = refl
 blank x (suc n) zero = refl
 blank x (suc n) (suc k) = blank x n k
 
-zeros : (k : ℕ) → col (replicate 128 0) k ≡ 0
+pub zeros : (k : ℕ) → col (replicate 128 0) k ≡ 0
 zeros k = blank {A = ℕ} 0 128 k
 
 pub wide-opened : Wide no-votes
@@ -51,8 +53,8 @@ pub written-opened : Written no-votes (replicate 256 0) 0
 unfolding front padded
 written-opened = record { fits = omega arith; each = λ e. times-none e ∙ ap (λ (b : Bool). cond b 1 0) (sym (none e)); clear = refl }
   where
-    none : (e : ℕ) → has-pair no-votes e ≡ false
-    none e = le-ltb (e % 2) (col (replicate 128 0) (e / 2)) (omega (arith, zeros (e / 2)))
+    none : (e : ℕ) → paired (no-votes .times) e ≡ false
+    none e = le-ltb (entry-pair e) (col (replicate 128 0) (entry-index e)) (omega (arith, zeros (entry-index e)))
 
 module _ (size : ℕ) (parents : List ℕ) (base : ℕ) (h : base < 256) where
   only : (x : ℕ) → T (flag (set (replicate 256 false) base true) x) → x ≡ base
@@ -73,10 +75,8 @@ module _ (size : ℕ) (parents : List ℕ) (base : ℕ) (h : base < 256) where
       record {
         tidy = tidy-opened size;
         base-used = T-true (getD-set-same (replicate 256 false) base true false (omega (arith, length-replicate 256 false)));
-        nodes-voted = record {
-          target-used = λ j x t. absurd (let a = aim-cast no-votes j x t in omega (arith, a .0, zeros j));
-          used-only = λ x u n. absurd (n (only x u));
-        };
+        nodes-voted = record { target-used = λ j x t. absurd (let a = aim-cast no-votes j x t in omega (arith, a .0, zeros j)) };
+        nodes-only = λ x u n. absurd (n (only x u));
         bits = record {
           words = λ x u. ap length (bare x u);
           told = λ x u j. ap (λ (ws : List ℕ). has ws j) (bare x u) ∙ has-none 2 j ∙ silent-lands x j;

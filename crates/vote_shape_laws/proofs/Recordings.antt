@@ -4,23 +4,25 @@ use mathlib.Core.Bool.{Bool, true, false, _&&_, _||_}
 use mathlib.Core.List.{List}
 use mathlib.Core.Path.{_≡_, refl, sym, ap, _∙_}
 use mathlib.Core.Logic.{_≢_}
-use Prim.Native.Nat.{ℕ, _+_, _*_, _<_}
+use Prim.Native.Nat.{ℕ, _+_, _<_}
 use native.Mathlib.Decide.{ℕ-discrete}
 use native.Mathlib.Omega.{arith}
 use lib.Dec.{T, eqb, ltb}
 use lib.ListN.{set, length}
 use lib.Seq.{getD-set-same, getD-set-other}
 use borrow.Author.Tests.{eq-eqb, ne-eqb}
+use Rattle.layouts.specs.Layout.{index-place, entry}
 use Rattle.loops.proofs.Tests.{or-false}
 use Rattle.grandpa.specs.Tree.{below}
 use Rattle.grandpa.specs.Vote.{lands, equivocated}
 use Rattle.bitfield.specs.Bits.{has, put}
 use Rattle.bitfield.proofs.Sets.{has-put, length-put}
-use Rattle.graph.specs.Shape.{Targets, with-vote, Bits, Voted}
+use Rattle.graph.specs.Shape.{Targets, with-vote, Bits, Voted, Used-only}
 use Rattle.nodes.specs.Nodes.{col, flag, row}
 use Rattle.tracker.specs.declared.Votes.{Votes}
 use Rattle.tracker.specs.Recorded.{cast-of, cast}
-use Rattle.vote_shape_laws.specs.Recorded.{Recorded, Wide, with-first, with-second}
+use Rattle.tracker.specs.Votes.{Wide, with-first, with-second}
+use Rattle.vote_shape_laws.specs.Recorded.{Recorded}
 use Rattle.vote_shape_laws.proofs.Casts.{lands-cast, twice-cast, aim-cast, cast-aim}
 use Rattle.vote_shape_laws.proofs.Keeps.{written-first, written-second, tidy-first, tidy-second}
 
@@ -83,31 +85,30 @@ module _ (v : Votes) (w : Wide v) (j : ℕ) (h : j < 128) where
         go (no d) = rw (twice-cast v i, twice-cast u i, ne-eqb i j d, getD-set-other (v .times) j i 2 0 d) (or-false (ltb 1 (col (v .times) i)))
 
 module _ (size : ℕ) (parents : List ℕ) (base : ℕ) (used : List Bool) (rows : List (List ℕ)) (v : Votes) (equivocations entries : List ℕ)
-    (count : ℕ) (w : Wide v) (r : Recorded size parents base used rows v equivocations entries count) (j : ℕ) (h : j < 128) (l : j < 2 * size) where
+    (count : ℕ) (w : Wide v) (r : Recorded size parents base used rows v equivocations entries count) (j : ℕ) (h : j < 128) (l : index-place j < size) where
   pub recorded-first : (place signature : ℕ) (nodes : List Bool) (bits : List (List ℕ)) → col (v .times) j ≡ 0 → T (flag nodes base)
-      → Voted base (cast (with-first v j place signature)) (flag nodes)
+      → Voted (cast (with-first v j place signature)) (flag nodes) → Used-only base (cast (with-first v j place signature)) (flag nodes)
       → Bits (col parents) (cast (with-first v j place signature)) (flag nodes) (row bits)
-      → Recorded size parents base nodes bits (with-first v j place signature) equivocations (set entries count (j * 2)) (count + 1)
-  recorded-first place signature nodes bits n b q t =
+      → Recorded size parents base nodes bits (with-first v j place signature) equivocations (set entries count (entry j 0)) (count + 1)
+  recorded-first place signature nodes bits n b q o t =
       record {
         tidy = tidy-first size v w j h l (r .tidy) place signature n;
         base-used = b;
         nodes-voted = q;
+        nodes-only = o;
         bits = t;
         equivocators = (r .equivocators .0, λ i. r .equivocators .1 i ∙ same-first v w j h place signature i n);
         history = written-first v (w .times-size) entries count (r .history) j place signature h n;
       }
 
   pub recorded-second : (target number signature : ℕ) → col (v .times) j ≡ 1
-      → Recorded size parents base used rows (with-second v j target number signature) (put equivocations j) (set entries count (j * 2 + 1)) (count + 1)
+      → Recorded size parents base used rows (with-second v j target number signature) (put equivocations j) (set entries count (entry j 1)) (count + 1)
   recorded-second target number signature n =
       record {
         tidy = tidy-second size v w j h l (r .tidy) target number signature n;
         base-used = r .base-used;
-        nodes-voted = record {
-          target-used = λ i x t. r .nodes-voted .target-used i x (second-targets v w j h target number signature n i x t);
-          used-only = λ x u d. let q = r .nodes-voted .used-only x u d in (q .0, targets-second v w j h target number signature n (q .0) x (q .1));
-        };
+        nodes-voted = record { target-used = λ i x t. r .nodes-voted .target-used i x (second-targets v w j h target number signature n i x t) };
+        nodes-only = λ x u d. let q = r .nodes-only x u d in (q .0, targets-second v w j h target number signature n (q .0) x (q .1));
         bits = record {
           words = r .bits .words;
           told = λ x u i. r .bits .told x u i ∙ lands-second v w j h target number signature n (col parents) x i;

@@ -2,34 +2,36 @@
 use mathlib.Core.Bool.{true, false, _&&_, _||_}
 use mathlib.Core.Path.{_≡_}
 use mathlib.Core.Logic.{_⊎_, inl, inr}
-use Prim.Native.Nat.{ℕ, _*_, _/_, _≤_, _<_}
+use Prim.Native.Nat.{ℕ, _≤_, _<_}
 use native.Mathlib.Decide.{decLt}
 use native.Mathlib.Omega.{arith}
 use lib.Dec.{T, eqb, leb, ltb, eqb→eq, leb→le, ltb→lt}
 use borrow.Author.Tests.{eq-eqb, le-leb, lt-ltb}
+use Rattle.layouts.specs.Layout.{index-place}
 use Rattle.loops.proofs.Tests.{T-true, both, left-of, right-of, in-left, in-right, either}
 use Rattle.loops.proofs.Alls.{all-at, all-intro}
 use Rattle.nodes.specs.Nodes.{col}
 use Rattle.tracker.specs.declared.Votes.{Votes}
+use Rattle.tracker.specs.Votes.{Wide}
 use Rattle.vote_shape.specs.Voted.{counted, first-clear, second-clear, tidy-at, tidy}
-use Rattle.vote_shape_laws.specs.Recorded.{Tidy, Wide}
+use Rattle.vote_shape_laws.specs.Recorded.{Tidy}
 use Rattle.vote_shape_laws.proofs.Casts.{past}
 
 -- the tests of one index
 module _ (size j n : ℕ) where
-  counted-says : T (counted size j n) → (n ≤ 2) × (2 * size ≤ j → n ≡ 0)
-  counted-says t = (leb→le n 2 (left-of (leb n 2) _ t), λ h. go h (either (ltb (j / 2) size) _ (right-of (leb n 2) _ t)))
+  counted-says : T (counted size j n) → (n ≤ 2) × (size ≤ index-place j → n ≡ 0)
+  counted-says t = (leb→le n 2 (left-of (leb n 2) _ t), λ h. go h (either (ltb (index-place j) size) _ (right-of (leb n 2) _ t)))
     where
-      go : 2 * size ≤ j → T (ltb (j / 2) size) ⊎ T (eqb n 0) → n ≡ 0
-      go h (inl l) = absurd (let k = ltb→lt (j / 2) size l in omega arith)
+      go : size ≤ index-place j → T (ltb (index-place j) size) ⊎ T (eqb n 0) → n ≡ 0
+      go h (inl l) = absurd (let k = ltb→lt (index-place j) size l in omega arith)
       go h (inr e) = eqb→eq n 0 e
 
-  says-counted : n ≤ 2 → (2 * size ≤ j → n ≡ 0) → T (counted size j n)
-  says-counted h f = both (leb n 2) _ (T-true (le-leb n 2 h)) (go (decLt (j / 2) size))
+  says-counted : n ≤ 2 → (size ≤ index-place j → n ≡ 0) → T (counted size j n)
+  says-counted h f = both (leb n 2) _ (T-true (le-leb n 2 h)) (go (decLt (index-place j) size))
     where
-      go : Dec (j / 2 < size) → T (ltb (j / 2) size || eqb n 0)
-      go (yes l) = in-left (ltb (j / 2) size) (eqb n 0) (T-true (lt-ltb (j / 2) size l))
-      go (no l) = in-right (ltb (j / 2) size) (eqb n 0) (T-true (eq-eqb n 0 (f (omega arith))))
+      go : Dec (index-place j < size) → T (ltb (index-place j) size || eqb n 0)
+      go (yes l) = in-left (ltb (index-place j) size) (eqb n 0) (T-true (lt-ltb (index-place j) size l))
+      go (no l) = in-right (ltb (index-place j) size) (eqb n 0) (T-true (eq-eqb n 0 (f (omega arith))))
 
 module _ (n place signature : ℕ) where
   first-says : T (first-clear n place signature) → n ≡ 0 → (place ≡ 0) × (signature ≡ 0)
@@ -108,7 +110,7 @@ module _ (size : ℕ) (v : Votes) where
       few j (yes l) = counted-says size j (col (v .times) j) (at j l .counts) .0
       few j (no l) = omega (arith, past (v .times) 128 j (w .times-size) (omega arith))
 
-      none-past : (j : ℕ) → 2 * size ≤ j → Dec (j < 128) → col (v .times) j ≡ 0
+      none-past : (j : ℕ) → size ≤ index-place j → Dec (j < 128) → col (v .times) j ≡ 0
       none-past j h (yes l) = counted-says size j (col (v .times) j) (at j l .counts) .1 h
       none-past j h (no l) = past (v .times) 128 j (w .times-size) (omega arith)
 

@@ -3,11 +3,13 @@
 ghost use mathlib.Core.Path.{_≡_};
 ghost use Prim.Native.Nat.{_≤_};
 ghost use lib.ListN.{length, drop};
+ghost use Rattle.lent.specs.Moment.{given, before, after};
+ghost use Rattle.importing.specs.Lent.{frame-at, held-at};
 ghost use Rattle.held_laws.specs.Kept.{Kept};
 ghost use Rattle.marks.specs.Marks as marks;
-ghost use Rattle.runs.specs.Run.{Run, ran};
+ghost use Rattle.runs.specs.Run.{ended, ran};
 ghost use Rattle.runs.specs.Tried.{Tried, tried};
-ghost use Rattle.voting.specs.Voting.{Voting, pair-in, turn-of, kind-of, voted};
+ghost use Rattle.voting.specs.Voting.{Voting, both, pair-in, turn-of, kind-of, voted};
 use context::Phase;
 use importing::Standing;
 use judging::ImportResult;
@@ -15,6 +17,7 @@ use marks::End;
 use marks::Mark;
 use marks::Record;
 use marks::Turn;
+use sizes::HISTORY;
 use tracker::Pair;
 
 // What a mark is in this turn.
@@ -103,13 +106,21 @@ fn take<'a>(
     targets: &mut [u32; 128],
     numbers: &mut [u32; 128],
     seconds: &mut [u64; 128],
-    entries: &mut [u8; 256],
+    entries: &mut [u16; HISTORY],
     standing: Standing,
     mark: Mark,
     fields: &[u8],
 ) -> Took
-    requires { ⌜ Kept (record { number = number; voters = record { ids = now voters; weights = now weights; count = size; threshold = threshold; total = total }; table = record { ids = now ids; numbers = now heights; parents = now parents; count = blocks }; base = base }) (record { graph = record { used = now used; above = now above; rows = now rows; order = now order; listed = standing .listed; heads = now heads; tips = standing .tips }; votes = record { times = now times; places = now places; signatures = now signatures; targets = now targets; numbers = now numbers; seconds = now seconds }; entries = now entries; count = standing .count; equivocations = standing .equivocations; heard = standing .heard; answers = standing .answers }) × (length (now fields) ≡ marks.size mark) ⌝ }
-    ensures { λ r. ⌜ _≡_ {A = Tried Voting} (record { state = record { frame = record { number = number; voters = record { ids = now (voters .entry); weights = now (weights .entry); count = size; threshold = threshold; total = total }; table = record { ids = now (ids .exit); numbers = now (heights .exit); parents = now (parents .exit); count = r .blocks }; base = base }; held = record { graph = record { used = now (used .exit); above = now (above .exit); rows = now (rows .exit); order = now (order .exit); listed = r .standing .listed; heads = now (heads .exit); tips = r .standing .tips }; votes = record { times = now (times .exit); places = now (places .exit); signatures = now (signatures .exit); targets = now (targets .exit); numbers = now (numbers .exit); seconds = now (seconds .exit) }; entries = now (entries .exit); count = r .standing .count; equivocations = r .standing .equivocations; heard = r .standing .heard; answers = r .standing .answers } }; turn = r .turn }) (tried voted (record { frame = record { number = number; voters = record { ids = now (voters .entry); weights = now (weights .entry); count = size; threshold = threshold; total = total }; table = record { ids = now (ids .entry); numbers = now (heights .entry); parents = now (parents .entry); count = blocks }; base = base }; held = record { graph = record { used = now (used .entry); above = now (above .entry); rows = now (rows .entry); order = now (order .entry); listed = standing .listed; heads = now (heads .entry); tips = standing .tips }; votes = record { times = now (times .entry); places = now (places .entry); signatures = now (signatures .entry); targets = now (targets .entry); numbers = now (numbers .entry); seconds = now (seconds .entry) }; entries = now (entries .entry); count = standing .count; equivocations = standing .equivocations; heard = standing .heard; answers = standing .answers } }) mark (now (fields .entry))) ⌝ }
+    requires { ⌜ Kept (frame-at given voters weights size total threshold number ids heights parents blocks base)
+        (held-at given used above rows order heads times places signatures targets numbers seconds entries standing)
+        × (length (now fields) ≡ marks.size mark) ⌝ }
+    ensures { λ r. ⌜ _≡_ {A = Tried Voting} (record {
+      state = both (frame-at after voters weights size total threshold number ids heights parents (r .blocks) base)
+          (held-at after used above rows order heads times places signatures targets numbers seconds entries (r .standing));
+      turn = r .turn;
+    })
+        (tried voted (both (frame-at before voters weights size total threshold number ids heights parents blocks base)
+        (held-at before used above rows order heads times places signatures targets numbers seconds entries standing)) mark (now (fields .entry))) ⌝ }
 {
     match kind_of(mark) {
         Kind::Block => {
@@ -193,14 +204,20 @@ pub fn run<'a>(
     targets: &mut [u32; 128],
     numbers: &mut [u32; 128],
     seconds: &mut [u64; 128],
-    entries: &mut [u8; 256],
+    entries: &mut [u16; HISTORY],
     standing: Standing,
     bytes: &[u8],
 ) -> Ran
-    requires { ⌜ Kept (record { number = number; voters = record { ids = now voters; weights = now weights; count = size; threshold = threshold; total = total }; table = record { ids = now ids; numbers = now heights; parents = now parents; count = blocks }; base = base }) (record { graph = record { used = now used; above = now above; rows = now rows; order = now order; listed = standing .listed; heads = now heads; tips = standing .tips }; votes = record { times = now times; places = now places; signatures = now signatures; targets = now targets; numbers = now numbers; seconds = now seconds }; entries = now entries; count = standing .count; equivocations = standing .equivocations; heard = standing .heard; answers = standing .answers }) ⌝ }
-    ensures { λ r. ⌜ _≡_ {A = Run Voting} (record { state = record { frame = record { number = number; voters = record { ids = now (voters .entry); weights = now (weights .entry); count = size; threshold = threshold; total = total }; table = record { ids = now (ids .exit); numbers = now (heights .exit); parents = now (parents .exit); count = r .blocks }; base = base }; held = record { graph = record { used = now (used .exit); above = now (above .exit); rows = now (rows .exit); order = now (order .exit); listed = r .standing .listed; heads = now (heads .exit); tips = r .standing .tips }; votes = record { times = now (times .exit); places = now (places .exit); signatures = now (signatures .exit); targets = now (targets .exit); numbers = now (numbers .exit); seconds = now (seconds .exit) }; entries = now (entries .exit); count = r .standing .count; equivocations = r .standing .equivocations; heard = r .standing .heard; answers = r .standing .answers } }; count = r .count; rest = drop (r .at) (now (bytes .entry)); end = r .end }) (ran voted (record { frame = record { number = number; voters = record { ids = now (voters .entry); weights = now (weights .entry); count = size; threshold = threshold; total = total }; table = record { ids = now (ids .entry); numbers = now (heights .entry); parents = now (parents .entry); count = blocks }; base = base }; held = record { graph = record { used = now (used .entry); above = now (above .entry); rows = now (rows .entry); order = now (order .entry); listed = standing .listed; heads = now (heads .entry); tips = standing .tips }; votes = record { times = now (times .entry); places = now (places .entry); signatures = now (signatures .entry); targets = now (targets .entry); numbers = now (numbers .entry); seconds = now (seconds .entry) }; entries = now (entries .entry); count = standing .count; equivocations = standing .equivocations; heard = standing .heard; answers = standing .answers } }) (now (bytes .entry))) ⌝ }
+    requires { ⌜ Kept (frame-at given voters weights size total threshold number ids heights parents blocks base)
+        (held-at given used above rows order heads times places signatures targets numbers seconds entries standing) ⌝ }
+    ensures { λ r. ⌜ ended (both (frame-at after voters weights size total threshold number ids heights parents (r .blocks) base)
+        (held-at after used above rows order heads times places signatures targets numbers seconds entries (r .standing)))
+        (r .count) (drop (r .at) (now (bytes .entry))) (r .end)
+        ≡ ran voted (both (frame-at before voters weights size total threshold number ids heights parents blocks base)
+        (held-at before used above rows order heads times places signatures targets numbers seconds entries standing)) (now (bytes .entry)) ⌝ }
     ensures { λ r. ⌜ (r .count ≤ r .at) × (r .at ≤ length (now (bytes .entry))) ⌝ }
-    ensures { λ r. ⌜ Kept (record { number = number; voters = record { ids = now (voters .entry); weights = now (weights .entry); count = size; threshold = threshold; total = total }; table = record { ids = now (ids .exit); numbers = now (heights .exit); parents = now (parents .exit); count = r .blocks }; base = base }) (record { graph = record { used = now (used .exit); above = now (above .exit); rows = now (rows .exit); order = now (order .exit); listed = r .standing .listed; heads = now (heads .exit); tips = r .standing .tips }; votes = record { times = now (times .exit); places = now (places .exit); signatures = now (signatures .exit); targets = now (targets .exit); numbers = now (numbers .exit); seconds = now (seconds .exit) }; entries = now (entries .exit); count = r .standing .count; equivocations = r .standing .equivocations; heard = r .standing .heard; answers = r .standing .answers }) ⌝ }
+    ensures { λ r. ⌜ Kept (frame-at after voters weights size total threshold number ids heights parents (r .blocks) base)
+        (held-at after used above rows order heads times places signatures targets numbers seconds entries (r .standing)) ⌝ }
 {
     let mut grown = blocks;
     let mut standing = standing;

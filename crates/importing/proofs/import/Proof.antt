@@ -10,7 +10,8 @@ use Rattle.importing.proofs.import.Lts as lts
 use Rattle.bitfield.proofs.set_bit.Reads as set-bit-reads
 use Rattle.importing.proofs.updated.Reads as updated-reads
 use Rattle.importing.proofs.with_heard.Reads as with-heard-reads
-use Rattle.judging.proofs.index.Reads as index-reads
+use Rattle.context.proofs.index.Reads as index-reads
+use Rattle.layouts.proofs.entry.Reads as entry-reads
 use Rattle.judging.proofs.judge.Reads as judge-reads
 use Rattle.vote_insert.proofs.insert.Reads as insert-reads
 
@@ -46,21 +47,19 @@ mul-signatures c = search needs
 element-write-signatures : tie.Need-element-write-signatures
 element-write-signatures c = search needs
 
--- src/lib.rt:176:31
-mul-entries : tie.Need-mul-entries
-mul-entries c = search needs
+entry-requires : tie.Need-entry-requires
+entry-requires c κs = (c .before .index .ensures .1, omega arith)
 
--- src/lib.rt:176:30
-cast-entries : tie.Need-cast-entries
-cast-entries c = search needs
+mul-entries : tie.Need-mul-entries
+mul-entries c = omega (arith, first-room _ _ (c .before .before .before .before .before .before .before .before .before .before .before .before .before .before .before .before .before .pre) _ _ _ _ _ (sym (c .before .before .before .before .before .before .before .before .before .judge .ensures) ∙ c .before .before .before .before .verdict2 .given .1))
 
 -- src/lib.rt:176:13
 element-write-entries : tie.Need-element-write-entries
-element-write-entries c = first-room _ _ (c .before .before .before .before .before .before .before .before .before .before .before .before .before .before .before .before .pre) _ _ _ _ _ (sym (c .before .before .before .before .before .before .before .before .judge .ensures) ∙ c .before .before .before .verdict2 .given .1)
+element-write-entries c = first-room _ _ (c .before .before .before .before .before .before .before .before .before .before .before .before .before .before .before .before .before .pre) _ _ _ _ _ (sym (c .before .before .before .before .before .before .before .before .before .judge .ensures) ∙ c .before .before .before .before .verdict2 .given .1)
 
 -- src/lib.rt:177:17
 insert-requires : tie.Need-insert-requires
-insert-requires c κs = first-insertable _ _ (c .before .before .before .before .before .before .before .before .before .before .before .before .before .before .before .before .before .before .before .before .before .pre) _ _ _ _ _ (sym (c .before .before .before .before .before .before .before .before .before .before .before .before .before .judge .ensures) ∙ c .before .before .before .before .before .before .before .before .verdict2 .given .1)
+insert-requires c κs = first-insertable _ _ (c .before .before .before .before .before .before .before .before .before .before .before .before .before .before .before .before .before .before .before .before .before .before .pre) _ _ _ _ _ (sym (c .before .before .before .before .before .before .before .before .before .before .before .before .before .before .judge .ensures) ∙ c .before .before .before .before .before .before .before .before .before .verdict2 .given .1)
 
 -- src/lib.rt:193:17
 with-heard-requires : tie.Need-with-heard-requires
@@ -68,11 +67,11 @@ with-heard-requires c κs = search needs
 
 -- src/lib.rt:194:17
 updated-requires : tie.Need-updated-requires
-updated-requires c κs = (first-grounded _ _ (c .before .before .before .before .before .before .before .before .before .before .before .before .before .before .before .before .before .before .before .before .before .before .before .before .before .before .before .before .pre) _ _ _ _ _ (sym (c .before .before .before .before .before .before .before .before .before .before .before .before .before .before .before .before .before .before .before .before .judge .ensures) ∙ c .before .before .before .before .before .before .before .before .before .before .before .before .before .before .before .verdict2 .given .1) _ _ (c .before .before .before .before .before .before .insert .ensures), c .before .before .before .before .before .before .before .before .before .before .before .before .before .before .before .before .before .before .before .before .before .before .before .before .before .before .before .before .pre .stored)
+updated-requires c κs = (first-grounded _ _ (c .before .before .before .before .before .before .before .before .before .before .before .before .before .before .before .before .before .before .before .before .before .before .before .before .before .before .before .before .before .pre) _ _ _ _ _ (sym (c .before .before .before .before .before .before .before .before .before .before .before .before .before .before .before .before .before .before .before .before .before .judge .ensures) ∙ c .before .before .before .before .before .before .before .before .before .before .before .before .before .before .before .before .verdict2 .given .1) _ _ (c .before .before .before .before .before .before .insert .ensures), c .before .before .before .before .before .before .before .before .before .before .before .before .before .before .before .before .before .before .before .before .before .before .before .before .before .before .before .before .before .pre .stored)
 
 -- src/lib.rt:217:28
 add-t63 : tie.Need-add-t63
-add-t63 c = omega (arith, first-room _ _ (c .before .before .before .before .before .before .before .before .before .before .before .before .before .before .before .before .before .before .before .before .before .before .before .before .before .before .before .before .before .pre) _ _ _ _ _ (sym (c .before .before .before .before .before .before .before .before .before .before .before .before .before .before .before .before .before .before .before .before .before .judge .ensures) ∙ c .before .before .before .before .before .before .before .before .before .before .before .before .before .before .before .before .verdict2 .given .1))
+add-t63 c = omega (arith, first-room _ _ (c .before .before .before .before .before .before .before .before .before .before .before .before .before .before .before .before .before .before .before .before .before .before .before .before .before .before .before .before .before .before .pre) _ _ _ _ _ (sym (c .before .before .before .before .before .before .before .before .before .before .before .before .before .before .before .before .before .before .before .before .before .before .judge .ensures) ∙ c .before .before .before .before .before .before .before .before .before .before .before .before .before .before .before .before .before .verdict2 .given .1))
 
 -- src/lib.rt:224:25
 enum-known-verdict-3 : tie.Need-enum-known-verdict-3
@@ -110,21 +109,15 @@ mul-seconds c = search needs
 element-write-seconds : tie.Need-element-write-seconds
 element-write-seconds c = search needs
 
--- src/lib.rt:230:31
+entry-requires-2 : tie.Need-entry-requires-2
+entry-requires-2 c κs = (c .index2 .ensures .1, omega arith)
+
 mul-entries-2 : tie.Need-mul-entries-2
-mul-entries-2 c = search needs
-
--- src/lib.rt:230:31
-add-entries : tie.Need-add-entries
-add-entries c = search needs
-
--- src/lib.rt:230:30
-cast-entries-2 : tie.Need-cast-entries-2
-cast-entries-2 c = search needs
+mul-entries-2 c = omega (arith, second-room _ _ (c .before .before .before .before .before .before .before .before .before .before .before .before .before .before .before .before .pre) _ _ _ _ _ (sym (c .before .before .before .before .before .before .before .before .judge .ensures) ∙ c .before .before .before .verdict3 .given .1))
 
 -- src/lib.rt:230:13
 element-write-entries-2 : tie.Need-element-write-entries-2
-element-write-entries-2 c = second-room _ _ (c .before .before .before .before .before .before .before .before .before .before .before .before .before .before .before .pre) _ _ _ _ _ (sym (c .before .before .before .before .before .before .before .judge .ensures) ∙ c .before .before .verdict3 .given .1)
+element-write-entries-2 c = second-room _ _ (c .before .before .before .before .before .before .before .before .before .before .before .before .before .before .before .before .pre) _ _ _ _ _ (sym (c .before .before .before .before .before .before .before .before .judge .ensures) ∙ c .before .before .before .verdict3 .given .1)
 
 -- src/lib.rt:233:17
 set-bit-requires : tie.Need-set-bit-requires
@@ -132,11 +125,11 @@ set-bit-requires c κs = search needs
 
 -- src/lib.rt:234:17
 updated-requires-2 : tie.Need-updated-requires-2
-updated-requires-2 c κs = (second-grounded _ _ (c .before .before .before .before .before .before .before .before .before .before .before .before .before .before .before .before .before .before .before .before .before .pre) _ _ _ _ _ (sym (c .before .before .before .before .before .before .before .before .before .before .before .before .before .judge .ensures) ∙ c .before .before .before .before .before .before .before .before .verdict3 .given .1), c .before .before .before .before .before .before .before .before .before .before .before .before .before .before .before .before .before .before .before .before .before .pre .stored)
+updated-requires-2 c κs = (second-grounded _ _ (c .before .before .before .before .before .before .before .before .before .before .before .before .before .before .before .before .before .before .before .before .before .before .pre) _ _ _ _ _ (sym (c .before .before .before .before .before .before .before .before .before .before .before .before .before .before .judge .ensures) ∙ c .before .before .before .before .before .before .before .before .before .verdict3 .given .1), c .before .before .before .before .before .before .before .before .before .before .before .before .before .before .before .before .before .before .before .before .before .before .pre .stored)
 
 -- src/lib.rt:263:28
 add-t83 : tie.Need-add-t83
-add-t83 c = omega (arith, second-room _ _ (c .before .before .before .before .before .before .before .before .before .before .before .before .before .before .before .before .before .before .before .before .before .before .pre) _ _ _ _ _ (sym (c .before .before .before .before .before .before .before .before .before .before .before .before .before .before .judge .ensures) ∙ c .before .before .before .before .before .before .before .before .before .verdict3 .given .1))
+add-t83 c = omega (arith, second-room _ _ (c .before .before .before .before .before .before .before .before .before .before .before .before .before .before .before .before .before .before .before .before .before .before .before .pre) _ _ _ _ _ (sym (c .before .before .before .before .before .before .before .before .before .before .before .before .before .before .before .judge .ensures) ∙ c .before .before .before .before .before .before .before .before .before .before .verdict3 .given .1))
 
 -- src/lib.rt:113:1
 returns : tie.Need-returns
@@ -145,11 +138,11 @@ returns c = rw (sym (c .before .before .before .before .before .before .judge .e
 
 -- src/lib.rt:113:1
 returns-2 : tie.Need-returns-2
-returns-2 c = first-done _ _ (c .before .before .before .before .before .before .before .before .before .before .before .before .before .before .before .before .before .before .before .before .before .before .before .before .before .before .before .before .before .pre) _ _ _ _ _ (sym (c .before .before .before .before .before .before .before .before .before .before .before .before .before .before .before .before .before .before .before .before .before .judge .ensures) ∙ c .before .before .before .before .before .before .before .before .before .before .before .before .before .before .before .before .verdict2 .given .1) _ (c .before .before .before .before .before .before .before .before .before .before .before .before .before .before .index .ensures .0) _ (c .before .before .before .before .before .before .before .insert .ensures) _ (c .before .before .before .before .before .before .with-heard .ensures) _ (c .updated .ensures)
+returns-2 c = first-done _ _ (c .before .before .before .before .before .before .before .before .before .before .before .before .before .before .before .before .before .before .before .before .before .before .before .before .before .before .before .before .before .before .pre) _ _ _ _ _ (sym (c .before .before .before .before .before .before .before .before .before .before .before .before .before .before .before .before .before .before .before .before .before .before .judge .ensures) ∙ c .before .before .before .before .before .before .before .before .before .before .before .before .before .before .before .before .before .verdict2 .given .1) _ (c .before .before .before .before .before .before .before .before .before .before .before .before .before .before .before .index .ensures .0) _ (c .before .before .before .before .before .before .before .before .before .before .before .before .before .entry .ensures .0) _ (c .before .before .before .before .before .before .before .insert .ensures) _ (c .before .before .before .before .before .before .with-heard .ensures) _ (c .updated .ensures)
 
 -- src/lib.rt:113:1
 returns-3 : tie.Need-returns-3
-returns-3 c = second-done _ _ (c .before .before .before .before .before .before .before .before .before .before .before .before .before .before .before .before .before .before .before .before .before .before .pre) _ _ _ _ _ (sym (c .before .before .before .before .before .before .before .before .before .before .before .before .before .before .judge .ensures) ∙ c .before .before .before .before .before .before .before .before .before .verdict3 .given .1) _ (c .before .before .before .before .before .before .before .index2 .ensures .0) _ (c .before .before .before .before .before .before .set-bit .ensures) _ (c .updated2 .ensures)
+returns-3 c = second-done _ _ (c .before .before .before .before .before .before .before .before .before .before .before .before .before .before .before .before .before .before .before .before .before .before .before .pre) _ _ _ _ _ (sym (c .before .before .before .before .before .before .before .before .before .before .before .before .before .before .before .judge .ensures) ∙ c .before .before .before .before .before .before .before .before .before .before .verdict3 .given .1) _ (c .before .before .before .before .before .before .before .before .index2 .ensures .0) _ (c .before .before .before .before .before .before .before .entry2 .ensures .0) _ (c .before .before .before .before .before .before .set-bit .ensures) _ (c .updated2 .ensures)
 
 pub import-spec : {M : Type 1} → statement M
 import-spec =
@@ -163,8 +156,8 @@ import-spec =
     element-write-places
     mul-signatures
     element-write-signatures
+    entry-requires
     mul-entries
-    cast-entries
     element-write-entries
     insert-requires
     with-heard-requires
@@ -179,9 +172,8 @@ import-spec =
     element-write-numbers
     mul-seconds
     element-write-seconds
+    entry-requires-2
     mul-entries-2
-    add-entries
-    cast-entries-2
     element-write-entries-2
     set-bit-requires
     updated-requires-2

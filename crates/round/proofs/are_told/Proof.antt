@@ -1,4 +1,4 @@
-use Rattle.vote_shape_laws.specs.Recorded.{Wide}
+use Rattle.tracker.specs.Votes.{Wide}
 use borrow.Author.Needs.{needs}
 use Rattle.round.proofs.are_told.Statement.{statement}
 use Rattle.round.proofs.are_told.Tie as tie

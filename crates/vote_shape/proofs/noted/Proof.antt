@@ -12,7 +12,7 @@ use Rattle.vote_shape.proofs.noted.Lts as lts
 use Rattle.climbs.proofs.wide.Reads as wide-reads
 
 abbrev Inv-loop : tie.InvT-loop
-Inv-loop base times places marks₀ j₀ marks j = (j ≤ 128) × Marked marks (before base times places j) 256
+Inv-loop base times places marks₀ j₀ marks j = (j ≤ 128) × Marked 256 marks (before base times places j) 256
 
 abbrev μ-loop : tie.MeasureT-loop
 μ-loop base times places marks₀ j₀ marks j = 128 - j
@@ -74,7 +74,7 @@ loop-again-2 c = (
 
 -- src/lib.rt:152:1
 returns : tie.Need-returns Inv-loop μ-loop
-returns c = let e = le-antisymm (c .before .loop .inv .0) (c .loop-test .left) in marked-is _ _ (rw e at (c .before .loop .inv .1))
+returns c = let e = le-antisymm (c .before .loop .inv .0) (c .loop-test .left) in marked-is _ _ _ (rw e at (c .before .loop .inv .1))
 
 pub noted-spec : {M : Type 1} → statement M
 noted-spec =
