@@ -8,6 +8,7 @@ use native.Mathlib.Omega.{arith}
 use lib.Dec.{T, eqb}
 use lib.ListN.{getD}
 use borrow.Author.Tests.{eq-eqb, ne-eqb}
+use Rattle.sizes.specs.Sizes.{VOTES}
 use Rattle.loops.proofs.Tests.{or-false, in-left, by-test}
 use Rattle.loops.proofs.Sums.{weigh-cong, weigh-put}
 use Rattle.grandpa.specs.Tree.{below}
@@ -59,7 +60,7 @@ module _ (k : Setting) (f : Faithful k) (phase : Phase) (p : ℕ) (in-set : p < 
   abbrev pub j : ℕ
   j = bit phase p
 
-  few : j < 128
+  few : j < VOTES
   few = bit-few phase p (omega (arith, f .good .few))
 
   -- the votes of another phase are as before

@@ -7,6 +7,7 @@ use mathlib.Core.Path.{_≡_}
 use Prim.Native.Nat.{ℕ, _≤_, _<_}
 use lib.Dec.{T}
 use lib.ListN.{getD, length}
+use Rattle.sizes.specs.Sizes.{WORDS, BLOCKS}
 use Rattle.weights.specs.Weights.{most}
 use Rattle.grandpa.specs.Tree.{Blocks, Tabled, below}
 use Rattle.grandpa.specs.Vote.{Vote, silent, Voters, heard, equivocated}
@@ -60,11 +61,11 @@ pub record Faithful (k : Setting) : Type 0 where
   pub good : Good (k .set)
   pub fits : k .set .total ≤ most
   pub tabled : Tabled (table k)
-  pub small : k .count ≤ 256
+  pub small : k .count ≤ BLOCKS
   pub shape : Shape (col (k .parents)) (col (k .ids)) (k .base) (k .count) (k .cast) (view (k .graph))
   pub only : Used-only (k .base) (k .cast) (flag (k .graph .used))
   pub no-voter : (phase : Phase) (p : ℕ) → k .set .count ≤ p → votes k phase p ≡ silent
-  pub two-words : length (k .equivocations) ≡ 2
+  pub two-words : length (k .equivocations) ≡ WORDS
   pub doubled : (j : ℕ) → has (k .equivocations) j ≡ equivocated (k .cast j)
   pub prevotes-heard : k .heard .prevote ≡ heard (voters k) (votes k Prevote)
   pub precommits-heard : k .heard .precommit ≡ heard (voters k) (votes k Precommit)

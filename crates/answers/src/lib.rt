@@ -11,6 +11,9 @@ use grandpa::PossibleToPrecommit;
 use nodes::Condition;
 use nodes::Found;
 use nodes::Question;
+use sizes::BLOCKS;
+use sizes::VOTERS;
+use sizes::WORDS;
 
 // The stored blocks by place: the Rust's `prevote_ghost` and `precommit_ghost`, `finalized`, `estimate`; and
 // `completable`.
@@ -60,18 +63,18 @@ fn start_of(stored: Found, base: u8) -> u8
 
 // The GHOST of a phase, worked out again from the stored one once heard weight reaches the threshold.
 pub fn phase_ghost<'a>(
-    parents: &'a [u8; 256],
-    used: &'a [bool; 256],
-    above: &'a [u8; 256],
-    rows: &'a [[u64; 2]; 256],
-    order: &'a [u8; 256],
+    parents: &'a [u8; BLOCKS],
+    used: &'a [bool; BLOCKS],
+    above: &'a [u8; BLOCKS],
+    rows: &'a [[u64; WORDS]; BLOCKS],
+    order: &'a [u8; BLOCKS],
     listed: usize,
-    heads: &'a [u8; 256],
+    heads: &'a [u8; BLOCKS],
     tips: usize,
-    weights: &'a [u64; 64],
+    weights: &'a [u64; VOTERS],
     base: u8,
     threshold: u64,
-    equivocations: [u64; 2],
+    equivocations: [u64; WORDS],
     phase: Phase,
     heard: u64,
     stored: Found,
@@ -105,18 +108,18 @@ pub fn phase_ghost<'a>(
 
 // The stored answers, with the prevote-GHOST worked out again in a prevote import only.
 pub fn with_ghost<'a>(
-    parents: &'a [u8; 256],
-    used: &'a [bool; 256],
-    above: &'a [u8; 256],
-    rows: &'a [[u64; 2]; 256],
-    order: &'a [u8; 256],
+    parents: &'a [u8; BLOCKS],
+    used: &'a [bool; BLOCKS],
+    above: &'a [u8; BLOCKS],
+    rows: &'a [[u64; WORDS]; BLOCKS],
+    order: &'a [u8; BLOCKS],
     listed: usize,
-    heads: &'a [u8; 256],
+    heads: &'a [u8; BLOCKS],
     tips: usize,
-    weights: &'a [u64; 64],
+    weights: &'a [u64; VOTERS],
     base: u8,
     threshold: u64,
-    equivocations: [u64; 2],
+    equivocations: [u64; WORDS],
     phase: Phase,
     heard: Heard,
     answers: Answers,
@@ -162,13 +165,13 @@ pub fn with_ghost<'a>(
 // Whether no block strictly below g can still be finalized. The estimate is possible, so that the search down is not asked
 // whether its start is.
 fn is_completable<'a>(
-    parents: &'a [u8; 256],
-    used: &'a [bool; 256],
-    above: &'a [u8; 256],
-    rows: &'a [[u64; 2]; 256],
-    order: &'a [u8; 256],
+    parents: &'a [u8; BLOCKS],
+    used: &'a [bool; BLOCKS],
+    above: &'a [u8; BLOCKS],
+    rows: &'a [[u64; WORDS]; BLOCKS],
+    order: &'a [u8; BLOCKS],
     listed: usize,
-    weights: &'a [u64; 64],
+    weights: &'a [u64; VOTERS],
     possible: Question,
     g: u8,
     estimate: Found,
@@ -199,19 +202,19 @@ fn is_completable<'a>(
 
 // `update`: finalized block, estimate and completable, from the stored prevote-GHOST.
 pub fn update<'a>(
-    parents: &'a [u8; 256],
-    used: &'a [bool; 256],
-    above: &'a [u8; 256],
-    rows: &'a [[u64; 2]; 256],
-    order: &'a [u8; 256],
+    parents: &'a [u8; BLOCKS],
+    used: &'a [bool; BLOCKS],
+    above: &'a [u8; BLOCKS],
+    rows: &'a [[u64; WORDS]; BLOCKS],
+    order: &'a [u8; BLOCKS],
     listed: usize,
-    heads: &'a [u8; 256],
+    heads: &'a [u8; BLOCKS],
     tips: usize,
-    weights: &'a [u64; 64],
+    weights: &'a [u64; VOTERS],
     base: u8,
     total: u64,
     threshold: u64,
-    equivocations: [u64; 2],
+    equivocations: [u64; WORDS],
     heard: Heard,
     answers: Answers,
 ) -> Answers

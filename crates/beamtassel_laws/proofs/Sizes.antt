@@ -2,9 +2,10 @@
 use mathlib.Core.Bool.{Bool, true, false}
 use mathlib.Core.List.{List, _++_}
 use mathlib.Core.Path.{_≡_}
-use Prim.Native.Nat.{ℕ, _+_, _≤_}
+use Prim.Native.Nat.{ℕ, _+_, _*_, _≤_}
 use native.Mathlib.Omega.{arith}
 use lib.ListN.{length, length-append}
+use Rattle.sizes.specs.Sizes.{VOTES}
 use Rattle.loops.specs.Listing.{keep}
 use Rattle.weights.specs.Weights.{plus}
 use Rattle.context.specs.declared.Phase.the-variants.{Prevote, Precommit}
@@ -32,17 +33,17 @@ use Rattle.lines.specs.Lines.{text, decimal, named, line, heard-line, block-end
 use Rattle.lines.proofs.Decimals.{decimal-length}
 use Rattle.report.specs.Report.{lines-by, lines-of}
 
--- two precommits of 64 voters, 22 bytes each
+-- two precommits of each voter, 22 bytes each
 pub list-size : (r : Round) → shaped r ≡ true → (b : ℕ)
-    → length (in-a-row (record-of (r .votes) (r .context .voters .ids) (r .table .ids) (r .table .numbers)) (entries-of (Finalizing b) r)) ≤ 2816
+    → length (in-a-row (record-of (r .votes) (r .context .voters .ids) (r .table .ids) (r .table .numbers)) (entries-of (Finalizing b) r)) ≤ 22 * VOTES
 unfolding entries-of
 list-size r s b =
     omega (
       arith,
       row-length (record-of (r .votes) (r .context .voters .ids) (r .table .ids) (r .table .numbers))
           (record-size (r .votes) (r .context .voters .ids) (r .table .ids) (r .table .numbers))
-          (keep (wants (r .votes .times) (r .votes .places) (r .table .parents) (Finalizing b)) (by-voter Precommit (r .context .voters .count))),
-      few-kept (wants (r .votes .times) (r .votes .places) (r .table .parents) (Finalizing b)) Precommit (r .context .voters .count),
+          (keep (wants (r .votes .counts) (r .votes .«first_block») (r .table .parents) (Finalizing b)) (by-voter Precommit (r .context .voters .count))),
+      few-kept (wants (r .votes .counts) (r .votes .«first_block») (r .table .parents) (Finalizing b)) Precommit (r .context .voters .count),
       voters-good r (T-true s) .few,
     )
 

@@ -12,6 +12,7 @@ use lib.Count.{leadingZeros, ones, ones-le, ones-step}
 use lib.Dec.{T, eqb}
 use lib.ListN.{getD}
 use lib.Pow.{shr-shr}
+use Rattle.sizes.specs.Sizes.{VOTERS}
 use Rattle.loops.specs.Sum.{sum, weigh}
 use Rattle.loops.proofs.Tests.{T-true, T-false, and-true, and-false}
 use Rattle.loops.proofs.Sums.{sum-cong, sum-split, sum-pairs, weigh-none, weigh-put-in}
@@ -137,8 +138,8 @@ ones-word w h = digits-sum 64 w h ∙ sum-cong 64 _ _ (λ b l. digit b l)
 -- two words of one phase: the voters of that phase
 pub phase-words : (v : ℕ → ℕ) (bits : List ℕ) (phase : Phase)
     → weigh 64 (inWord (getD (every (offset phase) bits) 0 0)) (λ b. v (0 + b / 2)) + weigh 64 (inWord (getD (every (offset phase) bits) 1 0)) (λ b. v (32 + b / 2))
-    ≡ weigh 64 (voted bits phase) v
-phase-words v bits phase = words-sum v (every (offset phase) bits) ∙ phase-sum v 64 bits phase
+    ≡ weigh VOTERS (voted bits phase) v
+phase-words v bits phase = words-sum v (every (offset phase) bits) ∙ phase-sum v VOTERS bits phase
 
 pub phase-weight : (weights bits : List ℕ) (phase : Phase)
     → plus (plus 0 (weigh 64 (inWord (getD (every (offset phase) bits) 0 0)) (λ b. getD weights (0 + b / 2) 0))) (weigh 64 (inWord (getD (every (offset phase) bits) 1 0)) (λ b. getD weights (32 + b / 2) 0))
@@ -150,6 +151,6 @@ pub phase-heard : (ws bits : List ℕ) (phase : Phase) → ws ≡ every (offset 
     → ones (getD ws 0 0) + ones (getD ws 1 0) ≡ heardIn bits phase
 unfolding heardIn
 phase-heard ws bits phase e f g =
-    let all : weigh 64 (inWord (getD ws 0 0)) (λ b. 1) + weigh 64 (inWord (getD ws 1 0)) (λ b. 1) ≡ weigh 64 (voted bits phase) (λ p. 1)
+    let all : weigh 64 (inWord (getD ws 0 0)) (λ b. 1) + weigh 64 (inWord (getD ws 1 0)) (λ b. 1) ≡ weigh VOTERS (voted bits phase) (λ p. 1)
     = rw e (phase-words (λ p. 1) bits phase) in
     omega (arith, ones-word (getD ws 0 0) f, ones-word (getD ws 1 0) g)

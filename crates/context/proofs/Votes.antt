@@ -7,6 +7,7 @@ use native.Mathlib.Omega.{arith}
 use borrow.Author.Tests.{eq-eqb, ne-eqb}
 use lib.Dec.{T, eqb, eqb→eq}
 use lib.ListN.{length, getD, replicate}
+use Rattle.sizes.specs.Sizes.{WORDS, VOTERS}
 use Rattle.loops.specs.Sum.{sum, weigh}
 use Rattle.loops.proofs.Tests.{T-true, T-false, in-left, left-of, right-of, or-false, same-test}
 use Rattle.loops.proofs.Sums.{sum-short, weigh-cong, weigh-mono, weigh-le, weigh-both, weigh-put}
@@ -26,7 +27,7 @@ pub record Holds (bits : List ℕ) (n : ℕ) : Type 0 where
   pub words : 64 * length bits ≡ 2 * n
 
 -- those of a round
-pub holds-voters : (bits : List ℕ) → length bits ≡ 2 → Holds bits 64
+pub holds-voters : (bits : List ℕ) → length bits ≡ WORDS → Holds bits VOTERS
 holds-voters bits two = record { whole = voters-whole; words = omega arith }
 
 -- which voters voted
@@ -136,20 +137,20 @@ module _ (n : ℕ) (v : ℕ → ℕ) (phase : Phase) where
 -- weights of a column
 module _ (weights : List ℕ) where
   -- where the whole column fits nothing saturates
-  pub exact : sum 64 (λ p. getD weights p 0) ≤ most → (s : ℕ → Bool) → weightOf weights s ≡ weigh 64 s (λ p. getD weights p 0)
+  pub exact : sum VOTERS (λ p. getD weights p 0) ≤ most → (s : ℕ → Bool) → weightOf weights s ≡ weigh VOTERS s (λ p. getD weights p 0)
   unfolding weightOf
-  exact h s = omega (arith, weigh-le 64 (λ p. getD weights p 0) s)
+  exact h s = omega (arith, weigh-le VOTERS (λ p. getD weights p 0) s)
 
-  pub weight-cong : (s t : ℕ → Bool) → ((p : ℕ) → p < 64 → s p ≡ t p) → weightOf weights s ≡ weightOf weights t
+  pub weight-cong : (s t : ℕ → Bool) → ((p : ℕ) → p < VOTERS → s p ≡ t p) → weightOf weights s ≡ weightOf weights t
   unfolding weightOf
-  weight-cong s t same = ap (λ (x : ℕ). min x most) (weigh-cong 64 (λ p. getD weights p 0) s t same)
+  weight-cong s t same = ap (λ (x : ℕ). min x most) (weigh-cong VOTERS (λ p. getD weights p 0) s t same)
 
   -- places without a voter weigh nothing
-  pub weigh-voters : (count : ℕ) → count ≤ 64 → ((p : ℕ) → count ≤ p → getD weights p 0 ≡ 0) → (s : ℕ → Bool)
-      → weigh 64 s (λ p. getD weights p 0) ≡ weigh count s (λ p. getD weights p 0)
+  pub weigh-voters : (count : ℕ) → count ≤ VOTERS → ((p : ℕ) → count ≤ p → getD weights p 0 ≡ 0) → (s : ℕ → Bool)
+      → weigh VOTERS s (λ p. getD weights p 0) ≡ weigh count s (λ p. getD weights p 0)
   weigh-voters count h none s =
-      let e : 64 ≡ count + (64 - count) = omega arith in
-      ap (λ (n : ℕ). weigh n s (λ p. getD weights p 0)) e ∙ sum-short count (64 - count) _ (λ p l. zero-or (s p) (none p l))
+      let e : VOTERS ≡ count + (VOTERS - count) = omega arith in
+      ap (λ (n : ℕ). weigh n s (λ p. getD weights p 0)) e ∙ sum-short count (VOTERS - count) _ (λ p l. zero-or (s p) (none p l))
     where
       zero-or : (b : Bool) {x : ℕ} → x ≡ 0 → cond b x 0 ≡ 0
       zero-or true e = e

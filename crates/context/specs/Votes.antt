@@ -1,9 +1,10 @@
--- Document 01, "Weights and bits". Votes as bits, over any number of words; weights over the 64 places of "Sizes".
+-- Document 01, "Weights and bits". Votes as bits, over any number of words; weights over VOTERS places.
 use mathlib.Core.Bool.{Bool, cond}
 use mathlib.Core.List.{List}
 use Prim.Native.Nat.{ℕ, min}
 use lib.Dec.{eqb}
 use lib.ListN.{getD}
+use Rattle.sizes.specs.Sizes.{VOTERS}
 use Rattle.loops.specs.Sum.{weigh}
 use Rattle.weights.specs.Weights.{most}
 use Rattle.bitfield.specs.Bits.{has}
@@ -30,8 +31,8 @@ voted bits phase place = has bits (bit phase place)
 
 -- the weight of the voters in s: weights add with saturation, and unused places of the column hold 0
 unfoldable pub weightOf : List ℕ → (ℕ → Bool) → ℕ
-weightOf weights s = min (weigh 64 s (λ p. getD weights p 0)) most
+weightOf weights s = min (weigh VOTERS s (λ p. getD weights p 0)) most
 
 -- voters heard in a phase
 unfoldable pub heardIn : List ℕ → Phase → ℕ
-heardIn bits phase = weigh 64 (voted bits phase) (λ p. 1)
+heardIn bits phase = weigh VOTERS (voted bits phase) (λ p. 1)

@@ -6,6 +6,7 @@ ghost use Rattle.sizes.specs.Sizes.{VOTERS, VOTES};
 ghost use Rattle.context.specs.Votes.{offset, bit, phase-at, voted, weightOf};
 ghost use Rattle.context.specs.Context.{vote, no-votes, with-node, with-vote, opened, with-equivocator, counts};
 use bitfield::Bit1;
+use sizes::WORDS;
 use voter_info::VoterInfo;
 use voter_set::VoterSet;
 use weights::VoteWeight;
@@ -20,7 +21,7 @@ pub enum Phase {
 // The voters of a round, and who equivocated.
 pub struct Context {
     pub voters: VoterSet,
-    pub equivocations: [u64; 2],
+    pub equivocations: [u64; WORDS],
 }
 
 // A single vote that can be put into a node.
@@ -30,7 +31,7 @@ pub struct Vote {
 
 // A node on which votes gather. Its weight is always asked in a context, for the equivocators' sake.
 pub struct VoteNode {
-    pub bits: [u64; 2],
+    pub bits: [u64; WORDS],
 }
 
 fn offset(phase: Phase) -> usize

@@ -9,6 +9,7 @@ use native.Mathlib.Omega.{arith}
 use lib.Dec.{T, eqb, ltb, eqb→eq, eqb-refl, ltb→lt, nltb→le, T-not, not-T}
 use lib.ListN.{length}
 use borrow.Author.Tests.{eq-eqb, ne-eqb, lt-ltb, le-ltb}
+use Rattle.sizes.specs.Sizes.{WORDS, VOTES}
 use Rattle.loops.specs.Listing.{times, keep}
 use Rattle.loops.proofs.Tests.{by-test, same-test, decT, in-left, in-right, either, both, left-of, right-of, true-T, false-T, le-or-lt}
 use Rattle.loops.proofs.Listings.{times-append, times-here, times-past, times-none, times-more, times-keep}
@@ -317,7 +318,7 @@ module _ (up ids : ℕ → ℕ) (falls : (k : ℕ) → up k ≤ pred k) (base co
     added-rows =
         record {
           words = λ x u.
-              by-test (λ (v : List ℕ). length v ≡ 2) (eqb x t) _ (g .bits x)
+              by-test (λ (v : List ℕ). length v ≡ WORDS) (eqb x t) _ (g .bits x)
               (λ e. length-join (g .bits) (containing up (g .used) (g .heads) t))
               (λ e. shape .rows .words x (was x u e));
           told = λ x u j.
@@ -330,14 +331,14 @@ module _ (up ids : ℕ → ℕ) (falls : (k : ℕ) → up k ≤ pred k) (base co
         was x u n = ⊎-elim (λ v. v) (λ e. absurd (T-not (eqb x t) n e)) (either (g .used x) (eqb x t) u)
 
   -- bit j, silent until now, for a node that is there
-  module _ (g : Graph) (j : ℕ) (few : j < 128) (quiet : cast j ≡ silent) (nodes : Nodes up ids base count (g .used) (g .order) (g .heads))
+  module _ (g : Graph) (j : ℕ) (few : j < VOTES) (quiet : cast j ≡ silent) (nodes : Nodes up ids base count (g .used) (g .order) (g .heads))
       (rows : Bits up cast (g .used) (g .bits)) (here : T (g .used t)) where
     marked-rows : Bits up (with-vote cast j t) (mark up t j g .used) (mark up t j g .bits)
     unfolding mark
     marked-rows =
         record {
           words = λ x u.
-              by-test (λ (v : List ℕ). length v ≡ 2) (g .used x && below up x t) (put (g .bits x) j) (g .bits x)
+              by-test (λ (v : List ℕ). length v ≡ WORDS) (g .used x && below up x t) (put (g .bits x) j) (g .bits x)
               (λ e. length-put (g .bits x) j ∙ rows .words x u) (λ e. rows .words x u);
           told = λ x u i.
               by-test (λ (v : List ℕ). has v i ≡ lands up x (with-vote cast j t i)) (g .used x && below up x t) (put (g .bits x) j) (g .bits x)
@@ -387,7 +388,7 @@ module _ (up ids : ℕ → ℕ) (falls : (k : ℕ) → up k ≤ pred k) (base co
         go i x p (no n) = targets i x (subst (λ (v : Vote). Targets v x) (ap (λ (b : Bool). cond b (once t) (cast i)) (ne-eqb i j n)) p)
 
   -- a first vote of bit j for t keeps the shape
-  module _ (g : Graph) (shape : Shape up ids base count cast g) (j : ℕ) (few : j < 128) (quiet : cast j ≡ silent) where
+  module _ (g : Graph) (shape : Shape up ids base count cast g) (j : ℕ) (few : j < VOTES) (quiet : cast j ≡ silent) where
     keeps-there : T (g .used t) → Shape up ids base count (with-vote cast j t) (mark up t j g)
     unfolding mark
     keeps-there u =

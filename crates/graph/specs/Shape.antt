@@ -8,6 +8,7 @@ use mathlib.Core.Logic.{_≢_}
 use Prim.Native.Nat.{ℕ, _<_}
 use lib.Dec.{T, eqb}
 use lib.ListN.{length}
+use Rattle.sizes.specs.Sizes.{WORDS}
 use Rattle.loops.specs.Listing.{times}
 use Rattle.grandpa.specs.Tree.{below}
 use Rattle.grandpa.specs.Vote.{Vote, silent, once, twice, lands}
@@ -50,7 +51,7 @@ abbrev pub with-vote : (ℕ → Vote) → ℕ → ℕ → ℕ → Vote
 with-vote cast j t i = cond (eqb i j) (once t) (cast i)
 
 pub record Bits (up : ℕ → ℕ) (cast : ℕ → Vote) (used : ℕ → Bool) (bits : ℕ → List ℕ) : Type 0 where
-  pub words : (x : ℕ) → T (used x) → length (bits x) ≡ 2
+  pub words : (x : ℕ) → T (used x) → length (bits x) ≡ WORDS
   pub told : (x : ℕ) → T (used x) → (j : ℕ) → has (bits x) j ≡ lands up x (cast j)
 
 pub record Voted (cast : ℕ → Vote) (used : ℕ → Bool) : Type 0 where

@@ -5,6 +5,7 @@ use mathlib.Core.List.{List}
 use Prim.Native.Nat.{ℕ, _-_}
 use lib.Dec.{eqb, ltb}
 use lib.ListN.{getD, set}
+use Rattle.sizes.specs.Sizes.{BLOCKS}
 use Rattle.loops.specs.All.{all}
 use Rattle.loops.specs.Listing.{fold, front}
 use Rattle.columns.specs.Blank.{blank}
@@ -46,4 +47,4 @@ zero-bits bits = eqb (getD bits 0 0) 0 && eqb (getD bits 1 0) 0
 
 -- no bits where there is no node
 unfoldable pub bare : List Bool → List (List ℕ) → Bool
-bare used rows = all 256 (λ k. flag used k || zero-bits (row rows k))
+bare used rows = all BLOCKS (λ k. flag used k || zero-bits (row rows k))

@@ -21,7 +21,7 @@ use Rattle.graph.specs.Shape.{Tip, Nodes}
 use Rattle.nodes.specs.Nodes.{col, flag, row, Falls}
 use Rattle.nodes.specs.Columns.{Columns, Sized, Sound}
 use Rattle.graph_sweeps.specs.Swept.{inside, tied}
-use Rattle.sizes.specs.Sizes.{BLOCKS}
+use Rattle.sizes.specs.Sizes.{WORDS, BLOCKS}
 use Rattle.graph_lists.specs.Listed.{once-each, laid, childless, rising, zero-bits, bare}
 use Rattle.graph_shape.specs.Graphed.{counted, others, graphed, Clear}
 use Rattle.graph_shape.proofs.Counts.{Counts, counted-says, says-counted}
@@ -30,10 +30,10 @@ use Rattle.graph_shape.proofs.Heads.{rising-says, says-rising}
 use Rattle.graph_shape.proofs.Tips.{above-earlier, tip-of, tip-lists}
 
 -- a marked place is within the column
-marked-in : (marks : List Bool) (x : ℕ) → length marks ≡ 256 → T (flag marks x) → x < 256
-marked-in marks x s t = go (decLt x 256)
+marked-in : (marks : List Bool) (x : ℕ) → length marks ≡ BLOCKS → T (flag marks x) → x < BLOCKS
+marked-in marks x s t = go (decLt x BLOCKS)
   where
-    go : Dec (x < 256) → x < 256
+    go : Dec (x < BLOCKS) → x < BLOCKS
     go (yes l) = l
     go (no l) = absurd (subst T (List·getD-eq-default marks false (omega arith)) t)
 
@@ -49,9 +49,9 @@ module _ (used : List Bool) (base : ℕ) where
   says-others x u n = subst T (sym (getD-set-other used base x false false n)) u
 
 module _ (parents : List ℕ) (count base : ℕ) (used : List Bool) where
-  inside-says : length used ≡ 256 → T (inside parents count base used) → (x : ℕ) → T (flag used x) → (x < count) × T (below (col parents) base x)
+  inside-says : length used ≡ BLOCKS → T (inside parents count base used) → (x : ℕ) → T (flag used x) → (x < count) × T (below (col parents) base x)
   unfolding inside
-  inside-says s t x u = go (either (not (flag used x)) _ (all-at _ 256 t x (marked-in used x s u)))
+  inside-says s t x u = go (either (not (flag used x)) _ (all-at _ BLOCKS t x (marked-in used x s u)))
     where
       go : T (not (flag used x)) ⊎ T (ltb x count && below (col parents) base x) → (x < count) × T (below (col parents) base x)
       go (inl n) = absurd (T-not (flag used x) n u)
@@ -59,36 +59,36 @@ module _ (parents : List ℕ) (count base : ℕ) (used : List Bool) where
 
   says-inside : ((x : ℕ) → T (flag used x) → (x < count) × T (below (col parents) base x)) → T (inside parents count base used)
   unfolding inside
-  says-inside f = all-intro _ 256 (λ k h. go k (decT (flag used k)))
+  says-inside f = all-intro _ BLOCKS (λ k h. go k (decT (flag used k)))
     where
       go : (k : ℕ) → Dec (T (flag used k)) → T (not (flag used k) || (ltb k count && below (col parents) base k))
       go k (yes u) = in-right (not (flag used k)) _ (both (ltb k count) _ (T-true (lt-ltb k count (f k u .0))) (f k u .1))
       go k (no n) = in-left (not (flag used k)) _ (not-T (flag used k) n)
 
 module _ (parents : List ℕ) (used rest : List Bool) (above : List ℕ) where
-  tied-says : length rest ≡ 256 → T (tied parents used rest above) → (k : ℕ) → T (flag rest k)
+  tied-says : length rest ≡ BLOCKS → T (tied parents used rest above) → (k : ℕ) → T (flag rest k)
       → col above k ≡ nearest (col parents) (flag used) (col parents k)
   unfolding tied
-  tied-says s t k r = rw (true-T (flag rest k) r) at (eqb→eq (col above k) _ (all-at _ 256 t k (marked-in rest k s r)))
+  tied-says s t k r = rw (true-T (flag rest k) r) at (eqb→eq (col above k) _ (all-at _ BLOCKS t k (marked-in rest k s r)))
 
-  tied-zero : length above ≡ 256 → T (tied parents used rest above) → (k : ℕ) → (T (flag rest k) → ⊥) → col above k ≡ 0
+  tied-zero : length above ≡ BLOCKS → T (tied parents used rest above) → (k : ℕ) → (T (flag rest k) → ⊥) → col above k ≡ 0
   unfolding tied
-  tied-zero s t k n = go (decLt k 256)
+  tied-zero s t k n = go (decLt k BLOCKS)
     where
-      go : Dec (k < 256) → col above k ≡ 0
-      go (yes l) = rw (false-not (flag rest k) n) at (eqb→eq (col above k) _ (all-at _ 256 t k l))
+      go : Dec (k < BLOCKS) → col above k ≡ 0
+      go (yes l) = rw (false-not (flag rest k) n) at (eqb→eq (col above k) _ (all-at _ BLOCKS t k l))
       go (no l) = List·getD-eq-default above 0 (omega arith)
 
   says-tied : ((k : ℕ) → T (flag rest k) → col above k ≡ nearest (col parents) (flag used) (col parents k))
       → ((k : ℕ) → (T (flag rest k) → ⊥) → col above k ≡ 0) → T (tied parents used rest above)
   unfolding tied
-  says-tied f z = all-intro _ 256 (λ k h. T-true (eq-eqb (col above k) _ (go k (flag rest k) refl)))
+  says-tied f z = all-intro _ BLOCKS (λ k h. T-true (eq-eqb (col above k) _ (go k (flag rest k) refl)))
     where
       go : (k : ℕ) (b : Bool) → flag rest k ≡ b → col above k ≡ cond b (nearest (col parents) (flag used) (col parents k)) 0
       go k true e = f k (T-true e)
       go k false e = z k (λ t. subst T e t)
 
-two-zeros : (bits : List ℕ) → length bits ≡ 2 → T (zero-bits bits) → bits ≡ no-bits
+two-zeros : (bits : List ℕ) → length bits ≡ WORDS → T (zero-bits bits) → bits ≡ no-bits
 two-zeros bits s t = ext-getD 0 bits no-bits s at
   where
     at : (i : ℕ) → i < length bits → getD bits i 0 ≡ getD no-bits i 0
@@ -97,19 +97,19 @@ two-zeros bits s t = ext-getD 0 bits no-bits s at
     at (suc (suc i)) h = absurd (omega arith)
 
 module _ (used : List Bool) (rows : List (List ℕ)) where
-  bare-says : T (bare used rows) → (k : ℕ) → k < 256 → T (not (flag used k)) → T (zero-bits (row rows k))
+  bare-says : T (bare used rows) → (k : ℕ) → k < BLOCKS → T (not (flag used k)) → T (zero-bits (row rows k))
   unfolding bare
-  bare-says t k h n = go (either (flag used k) _ (all-at _ 256 t k h))
+  bare-says t k h n = go (either (flag used k) _ (all-at _ BLOCKS t k h))
     where
       go : T (flag used k) ⊎ T (zero-bits (row rows k)) → T (zero-bits (row rows k))
       go (inl u) = absurd (T-not (flag used k) n u)
       go (inr z) = z
 
-  says-bare : ((k : ℕ) → k < 256 → T (not (flag used k)) → row rows k ≡ no-bits) → T (bare used rows)
+  says-bare : ((k : ℕ) → k < BLOCKS → T (not (flag used k)) → row rows k ≡ no-bits) → T (bare used rows)
   unfolding bare
-  says-bare f = all-intro _ 256 (λ k h. go k h (decT (flag used k)))
+  says-bare f = all-intro _ BLOCKS (λ k h. go k h (decT (flag used k)))
     where
-      go : (k : ℕ) → k < 256 → Dec (T (flag used k)) → T (flag used k || zero-bits (row rows k))
+      go : (k : ℕ) → k < BLOCKS → Dec (T (flag used k)) → T (flag used k || zero-bits (row rows k))
       go k h (yes u) = in-left (flag used k) _ u
       go k h (no n) = in-right (flag used k) _ (subst (λ (b : List ℕ). T (zero-bits b)) (sym (f k h (not-T (flag used k) n))) tt)
 
@@ -173,7 +173,7 @@ module _ (parents ids : List ℕ) (base count : ℕ) (g : Columns) where
     in-base : (x : ℕ) → T (flag (g .used) x) → (x < count) × T (below (col parents) base x)
     in-base = inside-says parents count base (g .used) (sized .used-size) (p .within)
 
-    rest-size : length (others (g .used) base) ≡ 256
+    rest-size : length (others (g .used) base) ≡ BLOCKS
     rest-size = length-set (g .used) base false ∙ sized .used-size
 
     ties-are : (x : ℕ) → T (flag (g .used) x) → x ≢ base → col (g .above) x ≡ nearest (col parents) (flag (g .used)) (col parents x)

@@ -18,7 +18,7 @@ use Rattle.graph_lists.specs.Listed.{laid, childless, rising, bare}
 -- counts within sizes; the base is a block of the table, and a node
 unfoldable pub counted : ℕ → ℕ → List Bool → ℕ → ℕ → Bool
 counted count base used listed tips =
-    leb count 256 && (leb listed 256 && (leb tips 256 && (ltb base count && flag used base)))
+    leb count BLOCKS && (leb listed BLOCKS && (leb tips BLOCKS && (ltb base count && flag used base)))
 
 -- the nodes but the base
 abbrev pub others : List Bool → ℕ → List Bool
@@ -38,4 +38,4 @@ graphed parents ids base count g =
 pub record Clear (base : ℕ) (g : Columns) : Type 0 where
   pub base-above : col (g .above) base ≡ 0
   pub bare-above : (k : ℕ) → T (not (flag (g .used) k)) → col (g .above) k ≡ 0
-  pub bare-rows : (k : ℕ) → k < 256 → T (not (flag (g .used) k)) → row (g .rows) k ≡ no-bits
+  pub bare-rows : (k : ℕ) → k < BLOCKS → T (not (flag (g .used) k)) → row (g .rows) k ≡ no-bits

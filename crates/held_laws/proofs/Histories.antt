@@ -78,16 +78,16 @@ module _ (f : Frame) (h : Held) (k : Kept f h) where
 
   -- an entry of history is of a voter of the set, and is there once
   inside : (x : ℕ) → 0 < times x entries → (index-place (entry-index x) < f .voters .count) × (times x entries ≤ 1)
-  inside x p = go (paired (h .votes .times) x) refl
+  inside x p = go (paired (h .votes .counts) x) refl
     where
-      early : col (h .votes .times) (entry-index x) ≢ 0 → Dec (index-place (entry-index x) < f .voters .count) → index-place (entry-index x) < f .voters .count
+      early : col (h .votes .counts) (entry-index x) ≢ 0 → Dec (index-place (entry-index x) < f .voters .count) → index-place (entry-index x) < f .voters .count
       early n (yes l) = l
       early n (no l) = absurd (n (k .recorded .tidy .none-past (entry-index x) (omega arith)))
 
-      go : (b : Bool) → paired (h .votes .times) x ≡ b → (index-place (entry-index x) < f .voters .count) × (times x entries ≤ 1)
+      go : (b : Bool) → paired (h .votes .counts) x ≡ b → (index-place (entry-index x) < f .voters .count) × (times x entries ≤ 1)
       go true e =
           let z : times x entries ≡ 1 = k .recorded .history .each x ∙ ap (λ (b : Bool). cond b 1 0) e in
-          let l = ltb→lt (entry-pair x) (col (h .votes .times) (entry-index x)) (T-true e) in
+          let l = ltb→lt (entry-pair x) (col (h .votes .counts) (entry-index x)) (T-true e) in
           (early (λ q. omega (arith, l, q)) (decLt (index-place (entry-index x)) (f .voters .count)), omega (arith, z))
       go false e =
           let z : times x entries ≡ 0 = k .recorded .history .each x ∙ ap (λ (b : Bool). cond b 1 0) e in

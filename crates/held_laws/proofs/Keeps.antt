@@ -35,7 +35,7 @@ module _ (f : Frame) (h : Held) (k : Kept f h) (phase : Phase) (signer : ℕ) (p
       (wide-first (h .votes) (k .wide) j b (p .signature))
       (tidy-first (f .voters .count) (h .votes) (k .wide) j few
       (place-fits phase (v .position) (f .voters .count) (first-in-set f h k phase signer p v b e)) (k .recorded .tidy) b (p .signature) quiet)
-      (written-first (h .votes) (k .wide .times-size) (h .entries) (h .count) (k .recorded .history) j b (p .signature) few quiet)
+      (written-first (h .votes) (k .wide .counts-size) (h .entries) (h .count) (k .recorded .history) j b (p .signature) few quiet)
       (told-seated (scene f next) (f .table .ids) (f .table .count) (setting f next .cast) (k .table .tree .falls) (faith .shape) (k .table .few) (f .voters .total)
       (next .heard) phase (h .answers) (k .seated))
 
@@ -50,7 +50,7 @@ module _ (f : Frame) (h : Held) (k : Kept f h) (phase : Phase) (signer : ℕ) (p
       (wide-second (h .votes) (k .wide) j (p .target) (p .number) (p .signature))
       (tidy-second (f .voters .count) (h .votes) (k .wide) j few
       (place-fits phase (v .position) (f .voters .count) (second-in-set f h k phase signer p v a e)) (k .recorded .tidy) (p .target) (p .number) (p .signature) spoken)
-      (written-second (h .votes) (k .wide .times-size) (h .entries) (h .count) (k .recorded .history) j (p .target) (p .number) (p .signature) few spoken)
+      (written-second (h .votes) (k .wide .counts-size) (h .entries) (h .count) (k .recorded .history) j (p .target) (p .number) (p .signature) few spoken)
       (told-seated (scene f next) (f .table .ids) (f .table .count) (setting f next .cast) (k .table .tree .falls) (faith .shape) (k .table .few) (f .voters .total)
       (next .heard) phase (h .answers) (k .seated))
 

@@ -64,7 +64,7 @@ import-later f h k phase signer p j = go (verdict f phase signer p h) refl
     go (Second v a) e =
         subst Next (sym (setting-second f h k phase signer p v a e))
         (second-follows (setting f h) (kept-faithful f h k) phase (v .position) (second-in-set f h k phase signer p v a e)
-        (col (h .votes .places) (bit phase (v .position))) (second-spoken f h k phase signer p v a e) .later j)
+        (col (h .votes .«first_block») (bit phase (v .position))) (second-spoken f h k phase signer p v a e) .later j)
 
 module _ (f : Frame) (h : Held) (k : Kept f h) where
   pub comes-grown : (g : Frame) (i : Held) → Comes f h g i → Grown (blocks (f .table)) (blocks (g .table))

@@ -26,9 +26,9 @@ use Rattle.importing.specs.Import.{Frame, Held, Ready}
 use Rattle.held_laws.specs.Kept.{setting, Kept}
 
 -- no pair, no vote
-pub cast-silent : (v : Votes) (j : ℕ) → col (v .times) j ≡ 0 → cast v j ≡ silent
+pub cast-silent : (v : Votes) (j : ℕ) → col (v .counts) j ≡ 0 → cast v j ≡ silent
 unfolding cast
-cast-silent v j e = ap (λ (n : ℕ). cast-of n (col (v .places) j)) e
+cast-silent v j e = ap (λ (n : ℕ). cast-of n (col (v .«first_block») j)) e
 
 module _ (f : Frame) (h : Held) where
   pub kept-faithful : Kept f h → Faithful (setting f h)
@@ -86,7 +86,7 @@ module _ (f : Frame) (h : Held) where
         sound = k .sound;
         apart = kept-apart k;
         stored = seated-in (f .table .parents) (f .base) (f .table .count) (h .answers .prevote) (k .seated .prevote);
-        room = written-room (h .votes) (k .wide .times-size) (h .entries) (h .count) (k .recorded .history);
+        room = written-room (h .votes) (k .wide .counts-size) (h .entries) (h .count) (k .recorded .history);
       }
 
   -- in each phase the voters heard and the others make the whole

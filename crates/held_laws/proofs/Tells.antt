@@ -74,7 +74,7 @@ module _ (f : Frame) (h : Held) (k : Kept f h) (o : Option ℕ) (t : Tells (sett
       go (Second v a) e =
           subst Next (sym (setting-second f h k phase signer p v a e))
           (second-tells (setting f h) (kept-faithful f h k) (v .position) (second-in-set f h k phase signer p v a e)
-          (col (h .votes .places) (bit phase (v .position))) o (h .answers) t phase (second-spoken f h k phase signer p v a e))
+          (col (h .votes .«first_block») (bit phase (v .position))) o (h .answers) t phase (second-spoken f h k phase signer p v a e))
 
   pub adding-tells : (id parent : ℕ) → Tells (setting (with-table f (step (f .table) id parent .table)) h) o (h .answers)
   adding-tells id parent =

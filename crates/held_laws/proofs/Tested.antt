@@ -6,6 +6,7 @@ use native.Mathlib.Omega.{arith}
 use lib.Dec.{T, eqb, eqb→eq, ltb, ltb→lt}
 use lib.ListN.{length}
 use borrow.Author.Tests.{eq-eqb, lt-ltb}
+use Rattle.sizes.specs.Sizes.{HISTORY}
 use Rattle.loops.specs.Listing.{front}
 use Rattle.loops.proofs.Tests.{T-true, true-T, both, left-of, right-of}
 use Rattle.loops.proofs.Listings.{length-front}
@@ -137,6 +138,6 @@ module _ (f : Frame) (h : Held) where
         wide = k .wide;
         entries-size =
             ap length (k .recorded .history .clear)
-            ∙ length-padded 256 (front (h .count) (h .entries)) (omega (arith, length-front (h .count) (h .entries), k .recorded .history .fits));
+            ∙ length-padded HISTORY (front (h .count) (h .entries)) (omega (arith, length-front (h .count) (h .entries), k .recorded .history .fits));
         words = k .recorded .equivocators .0;
       }

@@ -9,6 +9,7 @@ use lib.Dec.{eqb}
 use lib.ListN.{getD, set}
 use lib.Seq.{getD-set-same, getD-set-other}
 use borrow.Author.Tests.{eq-eqb, ne-eqb}
+use Rattle.sizes.specs.Sizes.{VOTES}
 use Rattle.layouts.specs.Layout.{index-place}
 use Rattle.weights.specs.Weights.{most, plus}
 use Rattle.columns.specs.declared.Found.{Found}
@@ -48,24 +49,24 @@ weight-there ids weights n x v e = go (find ids n x) refl
 pub place-fits : (phase : Phase) (p size : ℕ) → p < size → index-place (bit phase p) < size
 place-fits phase p size h = rw (place-bit phase p) h
 
-module _ (v : Votes) (w : Wide v) (j : ℕ) (few : j < 128) where
-  cast-there : (n t : ℕ) → col (v .times) j ≡ n → col (v .places) j ≡ t → cast v j ≡ cast-of n t
+module _ (v : Votes) (w : Wide v) (j : ℕ) (few : j < VOTES) where
+  cast-there : (n t : ℕ) → col (v .counts) j ≡ n → col (v .«first_block») j ≡ t → cast v j ≡ cast-of n t
   unfolding cast
   cast-there n t e q = rw (e, q)
 
   -- a second
   pub cast-second : (target number signature i : ℕ)
-      → cast (column.with-second v j target number signature) i ≡ with-second (cast v) j (col (v .places) j) i
+      → cast (column.with-second v j target number signature) i ≡ with-second (cast v) j (col (v .«first_block») j) i
   unfolding cast
   cast-second target number signature i = go (ℕ-discrete i j)
     where
       go : Dec (i ≡ j)
-          → cast-of (col (set (v .times) j 2) i) (col (v .places) i) ≡ cond (eqb i j) (twice (col (v .places) j)) (cast-of (col (v .times) i) (col (v .places) i))
-      go (yes e) = rw (eq-eqb i j e, e, getD-set-same (v .times) j 2 0 (omega (arith, w .times-size)))
-      go (no n) = rw (ne-eqb i j n, getD-set-other (v .times) j i 2 0 n)
+          → cast-of (col (set (v .counts) j 2) i) (col (v .«first_block») i) ≡ cond (eqb i j) (twice (col (v .«first_block») j)) (cast-of (col (v .counts) i) (col (v .«first_block») i))
+      go (yes e) = rw (eq-eqb i j e, e, getD-set-same (v .counts) j 2 0 (omega (arith, w .counts-size)))
+      go (no n) = rw (ne-eqb i j n, getD-set-other (v .counts) j i 2 0 n)
 
-  pub cast-once : col (v .times) j ≡ 1 → cast v j ≡ once (col (v .places) j)
-  cast-once e = cast-there 1 (col (v .places) j) e refl
+  pub cast-once : col (v .counts) j ≡ 1 → cast v j ≡ once (col (v .«first_block») j)
+  cast-once e = cast-there 1 (col (v .«first_block») j) e refl
 
 plus-fits : (a b : ℕ) → a + b ≤ most → plus a b ≡ a + b
 plus-fits a b h = omega arith

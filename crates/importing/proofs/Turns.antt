@@ -6,6 +6,7 @@ use Prim.Native.Nat.{ℕ, _<_}
 use native.Mathlib.Omega.{arith}
 use lib.Dec.{T}
 use lib.ListN.{set}
+use Rattle.sizes.specs.Sizes.{VOTERS, HISTORY}
 use Rattle.layouts.specs.Layout.{entry}
 use Rattle.columns.specs.declared.Found.{Found}
 use Rattle.columns.specs.declared.Found.the-variants as found
@@ -49,16 +50,16 @@ placed-in ids count id b e = go (find ids count id) refl e
 
 module _ (f : Frame) (h : Held) (ready : Ready f h) (phase : Phase) (signer : ℕ) (p : Pair) where
   module _ (v : VoterInfo) (b : ℕ) (e : verdict f phase signer p h ≡ First v b) where
-    said : (look-up (f .voters .ids) (f .voters .weights) (f .voters .count) signer ≡ Voter v) × (col (h .votes .times) (bit phase (v .position)) ≡ 0)
+    said : (look-up (f .voters .ids) (f .voters .weights) (f .voters .count) signer ≡ Voter v) × (col (h .votes .counts) (bit phase (v .position)) ≡ 0)
         × Aimed (f .table .ids) (f .table .numbers) (f .table .parents) (f .table .count) (f .base) p b
     said =
         judged-first (f .voters .ids) (f .voters .weights) (f .voters .count) (f .table .ids) (f .table .numbers) (f .table .parents) (f .table .count)
         (f .base) (h .votes) phase signer p v b e
 
-    pub first-place : v .position < 64
+    pub first-place : v .position < VOTERS
     first-place = omega (arith, position-inside (f .voters .ids) (f .voters .weights) (f .voters .count) signer v (said .0), ready .voters-few)
 
-    pub first-room : h .count < 256
+    pub first-room : h .count < HISTORY
     first-room = ready .room (bit phase (v .position)) (bit-few phase (v .position) first-place) (omega (arith, said .1))
 
     in-table : b < f .table .count
@@ -81,16 +82,16 @@ module _ (f : Frame) (h : Held) (ready : Ready f h) (phase : Phase) (signer : �
         })
 
   module _ (v : VoterInfo) (a : Pair) (e : verdict f phase signer p h ≡ Second v a) where
-    spoken : (look-up (f .voters .ids) (f .voters .weights) (f .voters .count) signer ≡ Voter v) × (col (h .votes .times) (bit phase (v .position)) ≡ 1)
-        × (a ≡ first-pair (h .votes .places) (h .votes .signatures) (f .table .ids) (f .table .numbers) (bit phase (v .position)))
+    spoken : (look-up (f .voters .ids) (f .voters .weights) (f .voters .count) signer ≡ Voter v) × (col (h .votes .counts) (bit phase (v .position)) ≡ 1)
+        × (a ≡ first-pair (h .votes .«first_block») (h .votes .«first_signature») (f .table .ids) (f .table .numbers) (bit phase (v .position)))
     spoken =
         judged-second (f .voters .ids) (f .voters .weights) (f .voters .count) (f .table .ids) (f .table .numbers) (f .table .parents) (f .table .count)
         (f .base) (h .votes) phase signer p v a e
 
-    pub second-place : v .position < 64
+    pub second-place : v .position < VOTERS
     second-place = omega (arith, position-inside (f .voters .ids) (f .voters .weights) (f .voters .count) signer v (spoken .0), ready .voters-few)
 
-    pub second-room : h .count < 256
+    pub second-room : h .count < HISTORY
     second-room = ready .room (bit phase (v .position)) (bit-few phase (v .position) second-place) (omega (arith, spoken .1))
 
     pub second-grounded : Grounded (f .table .parents) (f .base) (h .graph)

@@ -8,7 +8,7 @@ use mathlib.Core.Logic.{_≢_}
 use Prim.Native.Nat.{ℕ, _+_, _≤_, _<_}
 use lib.Dec.{T}
 use lib.ListN.{set, length, replicate}
-use Rattle.sizes.specs.Sizes.{WORDS, HISTORY}
+use Rattle.sizes.specs.Sizes.{WORDS, VOTERS, VOTES, HISTORY}
 use Rattle.layouts.specs.Layout.{entry}
 use Rattle.weights.specs.Weights.{plus}
 use Rattle.voter_set.specs.declared.VoterSet.{VoterSet}
@@ -184,8 +184,8 @@ import f phase signer p h = apply f phase signer p h (verdict f phase signer p h
 
 -- what the step asks of a round that is handed in; the shape rules give it
 pub record Ready (f : Frame) (h : Held) : Type 0 where
-  pub voters-few : f .voters .count ≤ 64
+  pub voters-few : f .voters .count ≤ VOTERS
   pub sound : Sound (f .table .parents) (f .table .ids) (f .base) (f .table .count) (h .graph)
   pub apart : (x y : ℕ) → x < f .table .count → y < f .table .count → x ≢ y → col (f .table .ids) x ≢ col (f .table .ids) y
   pub stored : In-base (f .table .parents) (f .base) (h .answers .prevote)
-  pub room : (j : ℕ) → j < 128 → col (h .votes .times) j < 2 → h .count < 256
+  pub room : (j : ℕ) → j < VOTES → col (h .votes .counts) j < 2 → h .count < HISTORY

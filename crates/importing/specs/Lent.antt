@@ -16,17 +16,17 @@ voters-at m ids weights size total threshold =
     record { ids = m .list (List ℕ) ids; weights = m .list (List ℕ) weights; count = size; threshold = threshold; total = total }
 
 abbrev pub table-at : (m : Moment) → m .Column (List ℕ) → m .Column (List ℕ) → m .Column (List ℕ) → ℕ → BlockTable
-table-at m ids heights parents blocks =
-    record { ids = m .list (List ℕ) ids; numbers = m .list (List ℕ) heights; parents = m .list (List ℕ) parents; count = blocks }
+table-at m ids numbers parents blocks =
+    record { ids = m .list (List ℕ) ids; numbers = m .list (List ℕ) numbers; parents = m .list (List ℕ) parents; count = blocks }
 
 abbrev pub frame-at : (m : Moment) → m .Column (List ℕ) → m .Column (List ℕ) → ℕ → ℕ → ℕ → ℕ → m .Column (List ℕ) → m .Column (List ℕ)
     → m .Column (List ℕ) → ℕ → ℕ → Frame
-frame-at m voters weights size total threshold number ids heights parents blocks base =
-    framed number (voters-at m voters weights size total threshold) (table-at m ids heights parents blocks) base
+frame-at m voters weights size total threshold number ids numbers parents blocks base =
+    framed number (voters-at m voters weights size total threshold) (table-at m ids numbers parents blocks) base
 
 abbrev pub held-at : (m : Moment) → m .Column (List Bool) → m .Column (List ℕ) → m .Column (List (List ℕ)) → m .Column (List ℕ)
     → m .Column (List ℕ) → m .Column (List ℕ) → m .Column (List ℕ) → m .Column (List ℕ) → m .Column (List ℕ) → m .Column (List ℕ)
     → m .Column (List ℕ) → m .Column (List ℕ) → Standing → Held
-held-at m used above rows order heads times places signatures targets numbers seconds entries standing =
+held-at m used above rows order heads counts first-block first-signature second-target second-number second-signature entries standing =
     held-with (graph-at m used above rows order (standing .listed) heads (standing .tips))
-    (votes-at m times places signatures targets numbers seconds) (m .list (List ℕ) entries) standing
+    (votes-at m counts first-block first-signature second-target second-number second-signature) (m .list (List ℕ) entries) standing

@@ -12,7 +12,11 @@ use context::Phase;
 use judging::Equivocation;
 use judging::ImportResult;
 use judging::Verdict;
+use sizes::BLOCKS;
 use sizes::HISTORY;
+use sizes::VOTERS;
+use sizes::VOTES;
+use sizes::WORDS;
 use tracker::Pair;
 use weights::VoteWeight;
 use weights::VoterWeight;
@@ -22,7 +26,7 @@ pub struct Standing {
     pub listed: usize,
     pub tips: usize,
     pub count: usize,
-    pub equivocations: [u64; 2],
+    pub equivocations: [u64; WORDS],
     pub heard: Heard,
     pub answers: Answers,
 }
@@ -42,7 +46,7 @@ pub fn blank() -> Standing
         listed: 0,
         tips: 1,
         count: 0,
-        equivocations: [0u64; 2],
+        equivocations: [0u64; WORDS],
         heard,
         answers: stored,
     }
@@ -73,19 +77,19 @@ fn with_heard(heard: Heard, phase: Phase, weight: VoterWeight) -> Heard
 
 // The answers after a vote was recorded.
 fn updated<'a>(
-    parents: &'a [u8; 256],
-    used: &'a [bool; 256],
-    above: &'a [u8; 256],
-    rows: &'a [[u64; 2]; 256],
-    order: &'a [u8; 256],
+    parents: &'a [u8; BLOCKS],
+    used: &'a [bool; BLOCKS],
+    above: &'a [u8; BLOCKS],
+    rows: &'a [[u64; WORDS]; BLOCKS],
+    order: &'a [u8; BLOCKS],
     listed: usize,
-    heads: &'a [u8; 256],
+    heads: &'a [u8; BLOCKS],
     tips: usize,
-    weights: &'a [u64; 64],
+    weights: &'a [u64; VOTERS],
     base: u8,
     total: u64,
     threshold: u64,
-    equivocations: [u64; 2],
+    equivocations: [u64; WORDS],
     phase: Phase,
     heard: Heard,
     stored: Answers,
@@ -132,56 +136,56 @@ fn updated<'a>(
 
 // A vote, taken by the verdict on it.
 pub fn import<'a>(
-    voters: &'a [u32; 64],
-    weights: &'a [u64; 64],
+    voters: &'a [u32; VOTERS],
+    weights: &'a [u64; VOTERS],
     size: usize,
     total: u64,
     threshold: u64,
     number: u64,
-    ids: &'a [u32; 256],
-    heights: &'a [u32; 256],
-    parents: &'a [u8; 256],
+    ids: &'a [u32; BLOCKS],
+    numbers: &'a [u32; BLOCKS],
+    parents: &'a [u8; BLOCKS],
     blocks: usize,
     base: u8,
-    used: &mut [bool; 256],
-    above: &mut [u8; 256],
-    rows: &mut [[u64; 2]; 256],
-    order: &mut [u8; 256],
-    heads: &mut [u8; 256],
-    times: &mut [u8; 128],
-    places: &mut [u8; 128],
-    signatures: &mut [u64; 128],
-    targets: &mut [u32; 128],
-    numbers: &mut [u32; 128],
-    seconds: &mut [u64; 128],
+    used: &mut [bool; BLOCKS],
+    above: &mut [u8; BLOCKS],
+    rows: &mut [[u64; WORDS]; BLOCKS],
+    order: &mut [u8; BLOCKS],
+    heads: &mut [u8; BLOCKS],
+    counts: &mut [u8; VOTES],
+    first_block: &mut [u8; VOTES],
+    first_signature: &mut [u64; VOTES],
+    second_target: &mut [u32; VOTES],
+    second_number: &mut [u32; VOTES],
+    second_signature: &mut [u64; VOTES],
     entries: &mut [u16; HISTORY],
     standing: Standing,
     phase: Phase,
     signer: u32,
     pair: Pair,
 ) -> Step
-    requires { ⌜ Ready (frame-at given voters weights size total threshold number ids heights parents blocks base)
-        (held-at given used above rows order heads times places signatures targets numbers seconds entries standing) ⌝ }
-    ensures { λ r. ⌜ taken (r .answer) (held-at after used above rows order heads times places signatures targets numbers seconds entries (r .standing))
-        ≡ import (frame-at before voters weights size total threshold number ids heights parents blocks base) phase signer pair
-        (held-at before used above rows order heads times places signatures targets numbers seconds entries standing) ⌝ }
+    requires { ⌜ Ready (frame-at given voters weights size total threshold number ids numbers parents blocks base)
+        (held-at given used above rows order heads counts «first_block» «first_signature» «second_target» «second_number» «second_signature» entries standing) ⌝ }
+    ensures { λ r. ⌜ taken (r .answer) (held-at after used above rows order heads counts «first_block» «first_signature» «second_target» «second_number» «second_signature» entries (r .standing))
+        ≡ import (frame-at before voters weights size total threshold number ids numbers parents blocks base) phase signer pair
+        (held-at before used above rows order heads counts «first_block» «first_signature» «second_target» «second_number» «second_signature» entries standing) ⌝ }
 {
     let verdict = judging::judge(
         voters,
         weights,
         size,
         ids,
-        heights,
+        numbers,
         parents,
         blocks,
         base,
         used,
-        times,
-        places,
-        signatures,
-        targets,
-        numbers,
-        seconds,
+        counts,
+        first_block,
+        first_signature,
+        second_target,
+        second_number,
+        second_signature,
         phase,
         signer,
         pair,
@@ -195,9 +199,9 @@ pub fn import<'a>(
         Verdict::First(info, block) => {
             let at = context::index(info.position, phase);
             let weight = info.weight;
-            times[at] = 1;
-            places[at] = block;
-            signatures[at] = pair.signature;
+            counts[at] = 1;
+            first_block[at] = block;
+            first_signature[at] = pair.signature;
             entries[count] = layouts::entry(at, 0);
             let counts = vote_insert::insert(
                 parents,
@@ -248,10 +252,10 @@ pub fn import<'a>(
         }
         Verdict::Second(info, first) => {
             let at = context::index(info.position, phase);
-            times[at] = 2;
-            targets[at] = pair.target;
-            numbers[at] = pair.number;
-            seconds[at] = pair.signature;
+            counts[at] = 2;
+            second_target[at] = pair.target;
+            second_number[at] = pair.number;
+            second_signature[at] = pair.signature;
             entries[count] = layouts::entry(at, 1);
             let listed = standing.listed;
             let tips = standing.tips;

@@ -5,6 +5,7 @@ use Prim.Native.Nat.{ℕ, _+_, _-_, _≤_, _<_}
 use native.Mathlib.Omega.{arith}
 use lib.ListN.{length, take, drop, length-drop}
 use lib.Seq.{drop-drop}
+use Rattle.sizes.specs.Sizes.{PAIRS}
 use Rattle.weights.specs.Weights.{most}
 use Rattle.voter_set.specs.declared.VoterSet.{VoterSet}
 use Rattle.voter_set.specs.declared.NewVoterSet.{NewVoterSet}
@@ -195,7 +196,7 @@ module _ (v : VoterSet) (t : BlockTable) (stands : Stands Kept (growing v t)) (u
       (part-run (growing v u) p a bs g) h
 
 -- the first turn
-module _ (p : Pairs) (few : p .count ≤ 256) (q : Pairs) (n a : ℕ) (bs : List ℕ) (x : End) (e : ended q n (drop a bs) x ≡ ran paired p bs) where
+module _ (p : Pairs) (few : p .count ≤ PAIRS) (q : Pairs) (n a : ℕ) (bs : List ℕ) (x : End) (e : ended q n (drop a bs) x ≡ ran paired p bs) where
   pub paired-cut : x ≡ Cut → (j : Journal) → j ≡ laid (pairing q) → ended j n (drop a bs) Cut ≡ run-from (pairing p) bs
   paired-cut f j g =
       ap (λ (y : Journal). ended y n (drop a bs) Cut) g ∙ sym (voters-cut p q few n bs (drop a bs) (matched q n (drop a bs) x Cut _ e f))

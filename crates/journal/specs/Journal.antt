@@ -5,6 +5,7 @@ use mathlib.Core.Path.{_≡_}
 use Prim.Native.Nat.{ℕ, _+_, _≤_}
 use lib.Dec.{leb}
 use lib.ListN.{length, drop}
+use Rattle.sizes.specs.Sizes.{PAIRS}
 use Rattle.voter_set.specs.Good.{good}
 use Rattle.block_shape.specs.Shape.{tabled}
 use Rattle.graph_rows.specs.Rows.{rows-of}
@@ -48,7 +49,7 @@ unset (index.At n) = false
 
 -- the test of a state that is handed in
 abbrev pub stands-by : Turn → Journal → Bool
-stands-by Voters j = leb (j .pairs .count) 256
+stands-by Voters j = leb (j .pairs .count) PAIRS
 stands-by Blocks j = good (j .round .context .voters) && tabled (j .round .table)
 stands-by Votes j = shaped (j .round) && (unset (j .round .history .prevoted) && unset (j .round .history .precommitted))
 

@@ -28,8 +28,8 @@ voters = 1 ∷ 2 ∷ 3 ∷ 4 ∷ []
 ids : List ℕ
 ids = 10 ∷ 11 ∷ 12 ∷ 13 ∷ []
 
-heights : List ℕ
-heights = 0 ∷ 1 ∷ 2 ∷ 2 ∷ []
+numbers : List ℕ
+numbers = 0 ∷ 1 ∷ 2 ∷ 2 ∷ []
 
 parents : List ℕ
 parents = 0 ∷ 0 ∷ 1 ∷ 1 ∷ []
@@ -42,25 +42,25 @@ voted phase p (x ∷ xs) column = voted phase (suc p) xs (set column (bit phase 
 none : List ℕ
 none = replicate VOTES 0
 
-places : List ℕ
-places = voted Prevote 0 (2 ∷ 2 ∷ 3 ∷ 2 ∷ []) (voted Precommit 0 (2 ∷ 2 ∷ 1 ∷ []) none)
+first-block : List ℕ
+first-block = voted Prevote 0 (2 ∷ 2 ∷ 3 ∷ 2 ∷ []) (voted Precommit 0 (2 ∷ 2 ∷ 1 ∷ []) none)
 
 spoken : List ℕ
 spoken = voted Prevote 0 (1 ∷ 1 ∷ 1 ∷ 1 ∷ []) (voted Precommit 0 (1 ∷ 1 ∷ 1 ∷ []) none)
 
 j : Votes
-j = record { times = spoken; places = places; signatures = none; targets = none; numbers = none; seconds = none }
+j = record { counts = spoken; «first_block» = first-block; «first_signature» = none; «second_target» = none; «second_number» = none; «second_signature» = none }
 
 -- with the second precommit of place 2
 twice : Votes
 twice =
     record {
-      times = set spoken (bit Precommit 2) 2;
-      places = places;
-      signatures = none;
-      targets = set none (bit Precommit 2) 13;
-      numbers = set none (bit Precommit 2) 2;
-      seconds = none;
+      counts = set spoken (bit Precommit 2) 2;
+      «first_block» = first-block;
+      «first_signature» = none;
+      «second_target» = set none (bit Precommit 2) 13;
+      «second_number» = set none (bit Precommit 2) 2;
+      «second_signature» = none;
     }
 
 -- the first and the second precommit of a place
@@ -70,18 +70,18 @@ first p = entry (bit Precommit p) 0
 second : ℕ → ℕ
 second p = entry (bit Precommit p) 1
 
-lists : (keep (wants (j .times) places parents (Finalizing 1)) (by-voter Precommit 4) ≡ first 0 ∷ first 1 ∷ first 2 ∷ [])
-    × (keep (wants (twice .times) places parents (Finalizing 2)) (by-voter Precommit 4) ≡ first 0 ∷ first 1 ∷ first 2 ∷ second 2 ∷ [])
-    × (keep (wants (j .times) places parents (Finalizing 2)) (by-voter Precommit 4) ≡ first 0 ∷ first 1 ∷ [])
-    × (keep (wants (j .times) places parents (Of Prevote)) (by-voter Prevote 4)
+lists : (keep (wants (j .counts) first-block parents (Finalizing 1)) (by-voter Precommit 4) ≡ first 0 ∷ first 1 ∷ first 2 ∷ [])
+    × (keep (wants (twice .counts) first-block parents (Finalizing 2)) (by-voter Precommit 4) ≡ first 0 ∷ first 1 ∷ first 2 ∷ second 2 ∷ [])
+    × (keep (wants (j .counts) first-block parents (Finalizing 2)) (by-voter Precommit 4) ≡ first 0 ∷ first 1 ∷ [])
+    × (keep (wants (j .counts) first-block parents (Of Prevote)) (by-voter Prevote 4)
     ≡ entry (bit Prevote 0) 0 ∷ entry (bit Prevote 1) 0 ∷ entry (bit Prevote 2) 0 ∷ entry (bit Prevote 3) 0 ∷ [])
-    × (keep (wants (twice .times) places parents (Of Precommit)) (by-voter Precommit 4) ≡ first 0 ∷ first 1 ∷ first 2 ∷ second 2 ∷ [])
-unfolding keep wants by-voter within below voted none parents places spoken j twice first second
+    × (keep (wants (twice .counts) first-block parents (Of Precommit)) (by-voter Precommit 4) ≡ first 0 ∷ first 1 ∷ first 2 ∷ second 2 ∷ [])
+unfolding keep wants by-voter within below voted none parents first-block spoken j twice first second
     bit index entry entry-index entry-pair layout.bit RUN
 lists = (refl, refl, refl, refl, refl)
 
 -- three Pc records, and what stood after them; one byte less is 14
-case-j : (written (record-of j voters ids heights) (first 0 ∷ first 1 ∷ first 2 ∷ []) (replicate 68 255)
+case-j : (written (record-of j voters ids numbers) (first 0 ∷ first 1 ∷ first 2 ∷ []) (replicate 68 255)
     ≡ record {
       answer = Bytes 66;
       bytes =
@@ -90,19 +90,19 @@ case-j : (written (record-of j voters ids heights) (first 0 ∷ first 1 ∷ firs
           80 ∷ 99 ∷ 3 ∷ 0 ∷ 0 ∷ 0 ∷ 11 ∷ 0 ∷ 0 ∷ 0 ∷ 1 ∷ 0 ∷ 0 ∷ 0 ∷ 0 ∷ 0 ∷ 0 ∷ 0 ∷ 0 ∷ 0 ∷ 0 ∷ 0 ∷
           255 ∷ 255 ∷ [];
     })
-    × (written (record-of j voters ids heights) (first 0 ∷ first 1 ∷ first 2 ∷ []) (replicate 65 255) ≡ record { answer = Refused 14; bytes = replicate 65 255 })
-unfolding written in-a-row record-of pair-of recorded vote-bytes voters ids heights voted none places spoken j first
+    × (written (record-of j voters ids numbers) (first 0 ∷ first 1 ∷ first 2 ∷ []) (replicate 65 255) ≡ record { answer = Refused 14; bytes = replicate 65 255 })
+unfolding written in-a-row record-of pair-of recorded vote-bytes voters ids numbers voted none first-block spoken j first
     bit phase-at index index-place index-phase entry entry-index entry-pair layout.bit layout.place-of layout.phase-of RUN
 case-j = (refl, refl)
 
 -- the equivocator's two, in arrival order
-case-j-twice : written (record-of twice voters ids heights) (first 2 ∷ second 2 ∷ []) (replicate 44 0)
+case-j-twice : written (record-of twice voters ids numbers) (first 2 ∷ second 2 ∷ []) (replicate 44 0)
     ≡ record {
       answer = Bytes 44;
       bytes =
           80 ∷ 99 ∷ 3 ∷ 0 ∷ 0 ∷ 0 ∷ 11 ∷ 0 ∷ 0 ∷ 0 ∷ 1 ∷ 0 ∷ 0 ∷ 0 ∷ 0 ∷ 0 ∷ 0 ∷ 0 ∷ 0 ∷ 0 ∷ 0 ∷ 0 ∷
           80 ∷ 99 ∷ 3 ∷ 0 ∷ 0 ∷ 0 ∷ 13 ∷ 0 ∷ 0 ∷ 0 ∷ 2 ∷ 0 ∷ 0 ∷ 0 ∷ 0 ∷ 0 ∷ 0 ∷ 0 ∷ 0 ∷ 0 ∷ 0 ∷ 0 ∷ [];
     }
-unfolding written in-a-row record-of pair-of recorded vote-bytes voters ids heights voted none places spoken twice first second
+unfolding written in-a-row record-of pair-of recorded vote-bytes voters ids numbers voted none first-block spoken twice first second
     bit phase-at index index-place index-phase entry entry-index entry-pair layout.bit layout.place-of layout.phase-of RUN
 case-j-twice = refl

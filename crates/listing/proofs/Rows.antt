@@ -116,12 +116,12 @@ unfolding written
 filled-not f xs old n short = rw (length-front n xs, lt-ltb _ _ short)
 
 -- the record of an entry
-module _ (v : Votes) (voters ids heights : List ℕ) where
-  pub record-size : (e : ℕ) → length (record-of v voters ids heights e) ≡ 22
+module _ (v : Votes) (voters ids numbers : List ℕ) where
+  pub record-size : (e : ℕ) → length (record-of v voters ids numbers e) ≡ 22
   unfolding record-of
-  record-size e = length-vote (phase-of e) (col voters (voter-of e)) (pair-of v ids heights e)
+  record-size e = length-vote (phase-of e) (col voters (voter-of e)) (pair-of v ids numbers e)
 
   pub record-is : (e at place : ℕ) (phase : Phase) (pair : Pair) → at ≡ entry-index e → place ≡ index-place at → phase ≡ phase-at at
-      → pair ≡ pair-of v ids heights e → vote-bytes phase (col voters place) pair ≡ record-of v voters ids heights e
+      → pair ≡ pair-of v ids numbers e → vote-bytes phase (col voters place) pair ≡ record-of v voters ids numbers e
   unfolding record-of
   record-is e at place phase pair a b d q = rw (d, q, b, a)

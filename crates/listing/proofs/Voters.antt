@@ -120,15 +120,15 @@ unfolding keep
 keep-both p x y a b = rw (a, b)
 
 -- a turn of the loop, at the voter of place p
-module _ (counts places parents : List ℕ) (wanted : Wanted) (phase : Phase) (p j : ℕ) (at : j ≡ bit phase p) where
+module _ (counts first-block parents : List ℕ) (wanted : Wanted) (phase : Phase) (p j : ℕ) (at : j ≡ bit phase p) where
   abbrev W : ℕ → Bool
-  W e = wants counts places parents wanted e
+  W e = wants counts first-block parents wanted e
 
   turn : keep W (by-voter phase (p + 1)) ≡ keep W (by-voter phase p) ++ keep W (entry j 0 ∷ entry j 1 ∷ [])
   unfolding by-voter
   turn = rw (add-one, at) (keep-append W (by-voter phase p) (entry (bit phase p) 0 ∷ entry (bit phase p) 1 ∷ []))
 
-  wants-is : (k : ℕ) → k < 2 → W (entry j k) ≡ (ltb k (col counts j) && suits counts places parents wanted j)
+  wants-is : (k : ℕ) → k < 2 → W (entry j k) ≡ (ltb k (col counts j) && suits counts first-block parents wanted j)
   unfolding wants
   wants-is k h = rw (index-entry j k h, pair-entry j k h)
 
@@ -140,18 +140,18 @@ module _ (counts places parents : List ℕ) (wanted : Wanted) (phase : Phase) (p
       neither (wants-is 0 (omega arith) ∙ rw (le-ltb 0 (col counts j) (omega arith)))
       (wants-is 1 (omega arith) ∙ rw (le-ltb 1 (col counts j) (omega arith)))
 
-  pub turn-unsuited : suits counts places parents wanted j ≡ false → keep W (by-voter phase (p + 1)) ≡ keep W (by-voter phase p)
+  pub turn-unsuited : suits counts first-block parents wanted j ≡ false → keep W (by-voter phase (p + 1)) ≡ keep W (by-voter phase p)
   turn-unsuited s =
       neither (wants-is 0 (omega arith) ∙ rw s (and-false (ltb 0 (col counts j)))) (wants-is 1 (omega arith) ∙ rw s (and-false (ltb 1 (col counts j))))
 
-  pub turn-single : col counts j ≡ 1 → suits counts places parents wanted j ≡ true
+  pub turn-single : col counts j ≡ 1 → suits counts first-block parents wanted j ≡ true
       → keep W (by-voter phase (p + 1)) ≡ keep W (by-voter phase p) ++ (entry j 0 ∷ [])
   turn-single n s =
       let a : W (entry j 0) ≡ true = wants-is 0 (omega arith) ∙ rw (s, lt-ltb 0 (col counts j) (omega arith)) in
       let b : W (entry j 1) ≡ false = wants-is 1 (omega arith) ∙ rw (le-ltb 1 (col counts j) (omega arith)) in
       turn ∙ ap (λ (l : List ℕ). keep W (by-voter phase p) ++ l) (keep-one W (entry j 0) (entry j 1) a b)
 
-  pub turn-both : 2 ≤ col counts j → suits counts places parents wanted j ≡ true
+  pub turn-both : 2 ≤ col counts j → suits counts first-block parents wanted j ≡ true
       → keep W (by-voter phase (p + 1)) ≡ (keep W (by-voter phase p) ++ (entry j 0 ∷ [])) ++ (entry j 1 ∷ [])
   turn-both n s =
       let a : W (entry j 0) ≡ true = wants-is 0 (omega arith) ∙ rw (s, lt-ltb 0 (col counts j) (omega arith)) in
@@ -163,12 +163,12 @@ module _ (counts places parents : List ℕ) (wanted : Wanted) (phase : Phase) (p
     short : length (keep W (by-voter phase p)) + 2 ≤ HISTORY
     short = omega (arith, few-kept W phase p)
 
-    pub laid-single : (x : ℕ) → x ≡ entry j 0 → col counts j ≡ 1 → suits counts places parents wanted j ≡ true
+    pub laid-single : (x : ℕ) → x ≡ entry j 0 → col counts j ≡ 1 → suits counts first-block parents wanted j ≡ true
         → record { entries = set entries n x; count = n + 1 } ≡ entered (keep W (by-voter phase (p + 1)))
     laid-single x e c s =
         rw e (entered-next entries n (keep W (by-voter phase p)) (entry j 0) laid (omega (arith, short)) ∙ ap entered (sym (turn-single c s)))
 
-    pub laid-both : (x y : ℕ) → x ≡ entry j 0 → y ≡ entry j 1 → 2 ≤ col counts j → suits counts places parents wanted j ≡ true
+    pub laid-both : (x y : ℕ) → x ≡ entry j 0 → y ≡ entry j 1 → 2 ≤ col counts j → suits counts first-block parents wanted j ≡ true
         → record { entries = set (set entries n x) (n + 1) y; count = n + 1 + 1 } ≡ entered (keep W (by-voter phase (p + 1)))
     laid-both x y e f c s =
         rw (e, f)

@@ -27,13 +27,13 @@ phase-in (Finalizing block) = Precommit
 
 -- the precommits at an index: not a single one, or one at or below the block
 abbrev pub finalizes : List ℕ → List ℕ → List ℕ → ℕ → ℕ → Bool
-finalizes times places parents block j = not (eqb (col times j) 1) || below (col parents) block (col places j)
+finalizes counts first-block parents block j = not (eqb (col counts j) 1) || below (col parents) block (col first-block j)
 
 -- among the votes of its phase
 abbrev pub suits : List ℕ → List ℕ → List ℕ → Wanted → ℕ → Bool
-suits times places parents (Of phase) j = true
-suits times places parents (Finalizing block) j = finalizes times places parents block j
+suits counts first-block parents (Of phase) j = true
+suits counts first-block parents (Finalizing block) j = finalizes counts first-block parents block j
 
 -- the pair is recorded, and suits
 unfoldable pub wants : List ℕ → List ℕ → List ℕ → Wanted → ℕ → Bool
-wants times places parents wanted e = paired times e && suits times places parents wanted (entry-index e)
+wants counts first-block parents wanted e = paired counts e && suits counts first-block parents wanted (entry-index e)

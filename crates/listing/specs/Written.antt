@@ -33,10 +33,10 @@ chosen (Single a) later = a
 chosen (Equivocated a b) later = cond later b a
 
 unfoldable pub pair-of : Votes → List ℕ → List ℕ → ℕ → Pair
-pair-of v ids heights e = chosen (recorded v ids heights (entry-index e)) (eqb (entry-pair e) 1)
+pair-of v ids numbers e = chosen (recorded v ids numbers (entry-index e)) (eqb (entry-pair e) 1)
 
 unfoldable pub record-of : Votes → List ℕ → List ℕ → List ℕ → ℕ → List ℕ
-record-of v voters ids heights e = vote-bytes (phase-of e) (col voters (voter-of e)) (pair-of v ids heights e)
+record-of v voters ids numbers e = vote-bytes (phase-of e) (col voters (voter-of e)) (pair-of v ids numbers e)
 
 -- records one after the other
 unfoldable pub in-a-row : (ℕ → List ℕ) → List ℕ → List ℕ

@@ -11,7 +11,10 @@ ghost use Rattle.listing.specs.Entries.{by-voter, phase-in, finalizes, s
 ghost use Rattle.listing.specs.Written.{chosen, pair-of, record-of, Lent, written};
 use context::Phase;
 use entry_lists::Entries;
+use sizes::BLOCKS;
 use sizes::HISTORY;
+use sizes::VOTERS;
+use sizes::VOTES;
 use tracker::Pair;
 use tracker::VoteMultiplicity;
 
@@ -32,58 +35,58 @@ fn phase_in(wanted: Wanted) -> Phase
 
 // A single precommit where it is at or below the block, both of an equivocator always.
 fn finalizes<'a>(
-    times: &'a [u8; 128],
-    places: &'a [u8; 128],
-    parents: &'a [u8; 256],
+    counts: &'a [u8; VOTES],
+    first_block: &'a [u8; VOTES],
+    parents: &'a [u8; BLOCKS],
     block: u8,
     at: usize,
 ) -> bool
     requires { ⌜ (Falls (now parents)) × (at < VOTES) ⌝ }
-    ensures { λ r. ⌜ r ≡ finalizes (now (times .entry)) (now (places .entry)) (now (parents .entry)) block at ⌝ }
+    ensures { λ r. ⌜ r ≡ finalizes (now (counts .entry)) (now («first_block» .entry)) (now (parents .entry)) block at ⌝ }
 {
-    if times[at] != 1 {
+    if counts[at] != 1 {
         return true;
     }
-    climbs::reaches(parents, block, places[at])
+    climbs::reaches(parents, block, first_block[at])
 }
 
 fn suits<'a>(
-    times: &'a [u8; 128],
-    places: &'a [u8; 128],
-    parents: &'a [u8; 256],
+    counts: &'a [u8; VOTES],
+    first_block: &'a [u8; VOTES],
+    parents: &'a [u8; BLOCKS],
     wanted: Wanted,
     at: usize,
 ) -> bool
     requires { ⌜ (Falls (now parents)) × (at < VOTES) ⌝ }
-    ensures { λ r. ⌜ r ≡ suits (now (times .entry)) (now (places .entry)) (now (parents .entry)) wanted at ⌝ }
+    ensures { λ r. ⌜ r ≡ suits (now (counts .entry)) (now («first_block» .entry)) (now (parents .entry)) wanted at ⌝ }
 {
     match wanted {
         Wanted::Of(_) => true,
-        Wanted::Finalizing(block) => finalizes(times, places, parents, block, at),
+        Wanted::Finalizing(block) => finalizes(counts, first_block, parents, block, at),
     }
 }
 
 // The wanted entries of the first `size` voters, by rising voter.
 pub fn entries_of<'a>(
-    times: &'a [u8; 128],
-    places: &'a [u8; 128],
-    parents: &'a [u8; 256],
+    counts: &'a [u8; VOTES],
+    first_block: &'a [u8; VOTES],
+    parents: &'a [u8; BLOCKS],
     size: usize,
     wanted: Wanted,
 ) -> Entries
     requires { ⌜ (Falls (now parents)) × (size ≤ VOTERS) ⌝ }
-    ensures { λ r. ⌜ r ≡ entered (keep (wants (now (times .entry)) (now (places .entry)) (now (parents .entry)) wanted) (by-voter (phase-in wanted) size)) ⌝ }
+    ensures { λ r. ⌜ r ≡ entered (keep (wants (now (counts .entry)) (now («first_block» .entry)) (now (parents .entry)) wanted) (by-voter (phase-in wanted) size)) ⌝ }
 {
     let phase = phase_in(wanted);
     let mut entries = [0u16; HISTORY];
     let mut n = 0;
     for place in 0..size {
         let at = context::index(place, phase);
-        let pairs = times[at];
+        let pairs = counts[at];
         if pairs == 0 {
             continue;
         }
-        if !suits(times, places, parents, wanted, at) {
+        if !suits(counts, first_block, parents, wanted, at) {
             continue;
         }
         entries[n] = layouts::entry(at, 0);
@@ -124,28 +127,28 @@ fn chosen(recorded: VoteMultiplicity, later: bool) -> Pair
 
 // The pair of an entry.
 fn pair_of<'a>(
-    times: &'a [u8; 128],
-    places: &'a [u8; 128],
-    signatures: &'a [u64; 128],
-    targets: &'a [u32; 128],
-    numbers: &'a [u32; 128],
-    seconds: &'a [u64; 128],
-    ids: &'a [u32; 256],
-    heights: &'a [u32; 256],
+    counts: &'a [u8; VOTES],
+    first_block: &'a [u8; VOTES],
+    first_signature: &'a [u64; VOTES],
+    second_target: &'a [u32; VOTES],
+    second_number: &'a [u32; VOTES],
+    second_signature: &'a [u64; VOTES],
+    ids: &'a [u32; BLOCKS],
+    numbers: &'a [u32; BLOCKS],
     entry: u16,
 ) -> Pair
     requires { ⌜ entry < HISTORY ⌝ }
-    ensures { λ r. ⌜ r ≡ pair-of (votes-at before times places signatures targets numbers seconds) (now (ids .entry)) (now (heights .entry)) entry ⌝ }
+    ensures { λ r. ⌜ r ≡ pair-of (votes-at before counts «first_block» «first_signature» «second_target» «second_number» «second_signature») (now (ids .entry)) (now (numbers .entry)) entry ⌝ }
 {
     let recorded = tracker::recorded(
-        times,
-        places,
-        signatures,
-        targets,
-        numbers,
-        seconds,
+        counts,
+        first_block,
+        first_signature,
+        second_target,
+        second_number,
+        second_signature,
         ids,
-        heights,
+        numbers,
         layouts::entry_index(entry),
     );
     chosen(recorded, layouts::entry_pair(entry) == 1)
@@ -155,20 +158,20 @@ fn pair_of<'a>(
 pub fn write<'a>(
     entries: &'a [u16; HISTORY],
     count: usize,
-    times: &'a [u8; 128],
-    places: &'a [u8; 128],
-    signatures: &'a [u64; 128],
-    targets: &'a [u32; 128],
-    numbers: &'a [u32; 128],
-    seconds: &'a [u64; 128],
-    voters: &'a [u32; 64],
-    ids: &'a [u32; 256],
-    heights: &'a [u32; 256],
+    counts: &'a [u8; VOTES],
+    first_block: &'a [u8; VOTES],
+    first_signature: &'a [u64; VOTES],
+    second_target: &'a [u32; VOTES],
+    second_number: &'a [u32; VOTES],
+    second_signature: &'a [u64; VOTES],
+    voters: &'a [u32; VOTERS],
+    ids: &'a [u32; BLOCKS],
+    numbers: &'a [u32; BLOCKS],
     out: &mut [u8],
 ) -> Written
     requires { ⌜ (count ≤ HISTORY) × Fit (now entries) count ⌝ }
     ensures { λ r. ⌜ _≡_ {A = Lent} (record { answer = r; bytes = now (out .exit) })
-        (written (record-of (votes-at before times places signatures targets numbers seconds) (now (voters .entry)) (now (ids .entry)) (now (heights .entry)))
+        (written (record-of (votes-at before counts «first_block» «first_signature» «second_target» «second_number» «second_signature») (now (voters .entry)) (now (ids .entry)) (now (numbers .entry)))
         (front count (now (entries .entry))) (now (out .entry))) ⌝ }
 {
     if out.len() < 22 * count {
@@ -180,14 +183,14 @@ pub fn write<'a>(
         let at = layouts::entry_index(entry);
         let phase = context::phase_at(at);
         let pair = pair_of(
-            times,
-            places,
-            signatures,
-            targets,
-            numbers,
-            seconds,
+            counts,
+            first_block,
+            first_signature,
+            second_target,
+            second_number,
+            second_signature,
             ids,
-            heights,
+            numbers,
             entry,
         );
         let place = layouts::index_place(at);

@@ -8,7 +8,7 @@ use mathlib.Core.Logic.{_≢_}
 use Prim.Native.Nat.{ℕ, _≤_, _<_}
 use lib.Dec.{T}
 use lib.ListN.{length}
-use Rattle.sizes.specs.Sizes.{BLOCKS, WORDS}
+use Rattle.sizes.specs.Sizes.{WORDS, BLOCKS}
 use Rattle.lent.specs.Moment.{Moment}
 use Rattle.loops.specs.Listing.{front}
 use Rattle.columns.specs.Lists.{padded}
@@ -61,13 +61,13 @@ pub record Sound (parents ids : List ℕ) (base count : ℕ) (g : Columns) : Typ
   pub parents-fall : Falls parents
   pub above-falls : Falls (g .above)
   pub nodes : Nodes (col parents) (col ids) base count (flag (g .used)) (front (g .listed) (g .order)) (front (g .tips) (g .heads))
-  pub small : count ≤ 256
+  pub small : count ≤ BLOCKS
   pub tied : (x : ℕ) → T (flag (g .used) x) → x ≢ base → col (g .above) x ≡ nearest (col parents) (flag (g .used)) (col parents x)
-  pub listed-fits : g .listed ≤ 256
-  pub tips-fit : g .tips ≤ 256
+  pub listed-fits : g .listed ≤ BLOCKS
+  pub tips-fit : g .tips ≤ BLOCKS
   pub sized : Sized g
-  pub order-clear : g .order ≡ padded 256 (front (g .listed) (g .order))
-  pub heads-clear : g .heads ≡ padded 256 (front (g .tips) (g .heads))
+  pub order-clear : g .order ≡ padded BLOCKS (front (g .listed) (g .order))
+  pub heads-clear : g .heads ≡ padded BLOCKS (front (g .tips) (g .heads))
 
 -- an answer as the code gives it
 abbrev pub as-found : Option ℕ → Found

@@ -25,13 +25,13 @@ use Rattle.round.specs.Ask.{records, entries-of, listed, finalizing, fin
 use Rattle.round.proofs.Steps.{few-voters}
 
 module _ (r : Round) (w : Wanted) (m : Entries)
-    (e : m ≡ entered (keep (wants (r .votes .times) (r .votes .places) (r .table .parents) w) (by-voter (phase-in w) (r .context .voters .count)))) where
+    (e : m ≡ entered (keep (wants (r .votes .counts) (r .votes .«first_block») (r .table .parents) w) (by-voter (phase-in w) (r .context .voters .count)))) where
   pub few-entries : T (shaped r) → m .count ≤ HISTORY
   few-entries t =
       omega (
         arith,
         entered-count m _ e,
-        few-kept (wants (r .votes .times) (r .votes .places) (r .table .parents) w) (phase-in w) (r .context .voters .count),
+        few-kept (wants (r .votes .counts) (r .votes .«first_block») (r .table .parents) w) (phase-in w) (r .context .voters .count),
         few-voters r t,
       )
 
@@ -39,7 +39,7 @@ module _ (r : Round) (w : Wanted) (m : Entries)
   fit-entries t k h =
       let i = subst (λ (l : List ℕ). 0 < times (getD (m .entries) k 0) l) (entered-front m _ e) (in-front (m .entries) k (m .count) h) in
       by-voter-in (phase-in w) (r .context .voters .count) (getD (m .entries) k 0) (few-voters r t)
-      (kept-in (wants (r .votes .times) (r .votes .places) (r .table .parents) w) (getD (m .entries) k 0) (by-voter (phase-in w) (r .context .voters .count)) i .0)
+      (kept-in (wants (r .votes .counts) (r .votes .«first_block») (r .table .parents) w) (getD (m .entries) k 0) (by-voter (phase-in w) (r .context .voters .count)) i .0)
 
   pub listed-done : (x : Lent) (out : List ℕ)
       → x ≡ records (front (m .count) (m .entries)) (r .context .voters) (r .table) (r .votes) out → x ≡ listed w r out

@@ -8,6 +8,7 @@ use native.Mathlib.Omega.{arith}
 use lib.Dec.{T, eqb, leb, ltb, eqb→eq}
 use lib.ListN.{length}
 use borrow.Author.Tests.{eq-eqb}
+use Rattle.sizes.specs.Sizes.{VOTERS, VOTES, HISTORY, BLOCKS}
 use Rattle.loops.proofs.Tests.{T-true, true-T, left-of, right-of}
 use Rattle.grandpa.specs.Tree.{below}
 use Rattle.voter_set.specs.Good.{Good, good}
@@ -46,36 +47,36 @@ module _ (r : Round) where
   unfolding sized
   says-sized s =
       rw (
-        eq-eqb _ 128 (s .wide .times-size),
-        eq-eqb _ 128 (s .wide .places-size),
-        eq-eqb _ 128 (s .wide .signatures-size),
-        eq-eqb _ 128 (s .wide .targets-size),
-        eq-eqb _ 128 (s .wide .numbers-size),
-        eq-eqb _ 128 (s .wide .seconds-size),
-        eq-eqb _ 256 (s .entries-size),
+        eq-eqb _ VOTES (s .wide .counts-size),
+        eq-eqb _ VOTES (s .wide .first-block-size),
+        eq-eqb _ VOTES (s .wide .first-signature-size),
+        eq-eqb _ VOTES (s .wide .second-target-size),
+        eq-eqb _ VOTES (s .wide .second-number-size),
+        eq-eqb _ VOTES (s .wide .second-signature-size),
+        eq-eqb _ HISTORY (s .entries-size),
         eq-eqb _ 2 (s .words),
       )
 
   pub sized-says : T (sized (held r)) → Lengths (held r)
   unfolding sized
   sized-says t =
-      let a = right-of (eqb (length (r .votes .times)) 128) _ t in
-      let b = right-of (eqb (length (r .votes .places)) 128) _ a in
-      let c = right-of (eqb (length (r .votes .signatures)) 128) _ b in
-      let d = right-of (eqb (length (r .votes .targets)) 128) _ c in
-      let e = right-of (eqb (length (r .votes .numbers)) 128) _ d in
-      let f = right-of (eqb (length (r .votes .seconds)) 128) _ e in
+      let a = right-of (eqb (length (r .votes .counts)) VOTES) _ t in
+      let b = right-of (eqb (length (r .votes .«first_block»)) VOTES) _ a in
+      let c = right-of (eqb (length (r .votes .«first_signature»)) VOTES) _ b in
+      let d = right-of (eqb (length (r .votes .«second_target»)) VOTES) _ c in
+      let e = right-of (eqb (length (r .votes .«second_number»)) VOTES) _ d in
+      let f = right-of (eqb (length (r .votes .«second_signature»)) VOTES) _ e in
       record {
         wide = record {
-          times-size = eqb→eq _ _ (left-of (eqb (length (r .votes .times)) 128) _ t);
-          places-size = eqb→eq _ _ (left-of (eqb (length (r .votes .places)) 128) _ a);
-          signatures-size = eqb→eq _ _ (left-of (eqb (length (r .votes .signatures)) 128) _ b);
-          targets-size = eqb→eq _ _ (left-of (eqb (length (r .votes .targets)) 128) _ c);
-          numbers-size = eqb→eq _ _ (left-of (eqb (length (r .votes .numbers)) 128) _ d);
-          seconds-size = eqb→eq _ _ (left-of (eqb (length (r .votes .seconds)) 128) _ e);
+          counts-size = eqb→eq _ _ (left-of (eqb (length (r .votes .counts)) VOTES) _ t);
+          first-block-size = eqb→eq _ _ (left-of (eqb (length (r .votes .«first_block»)) VOTES) _ a);
+          first-signature-size = eqb→eq _ _ (left-of (eqb (length (r .votes .«first_signature»)) VOTES) _ b);
+          second-target-size = eqb→eq _ _ (left-of (eqb (length (r .votes .«second_target»)) VOTES) _ c);
+          second-number-size = eqb→eq _ _ (left-of (eqb (length (r .votes .«second_number»)) VOTES) _ d);
+          second-signature-size = eqb→eq _ _ (left-of (eqb (length (r .votes .«second_signature»)) VOTES) _ e);
         };
-        entries-size = eqb→eq _ _ (left-of (eqb (length (r .history .entries)) 256) _ f);
-        words = eqb→eq _ _ (right-of (eqb (length (r .history .entries)) 256) _ f);
+        entries-size = eqb→eq _ _ (left-of (eqb (length (r .history .entries)) HISTORY) _ f);
+        words = eqb→eq _ _ (right-of (eqb (length (r .history .entries)) HISTORY) _ f);
       }
 
   -- the test by its parts
@@ -120,7 +121,7 @@ module _ (r : Round) where
     pub graph-kept : Kept (r .graph) (r .table)
     graph-kept = is-graph-means (r .graph) (r .table) (passed .0)
 
-    pub few-blocks : r .table .count ≤ 256
+    pub few-blocks : r .table .count ≤ BLOCKS
     few-blocks = graph-kept .table .few
 
     recorded : Recorded (r .context .voters .count) (r .table .parents) (r .graph .base) (r .graph .used) (words-of (r .graph .rows)) (r .votes)
@@ -153,20 +154,20 @@ module _ (r : Round) where
           apart = λ x y h k d e.
               d (graph-kept .table .distinct (col (r .table .ids) y) x y (record { inside = h; named = e }) (record { inside = k; named = refl }));
           stored = prevote-in;
-          room = λ j h l. written-room (r .votes) (sized-says (passed .2) .wide .times-size) (r .history .entries) (r .history .count) (recorded .history) j h l;
+          room = λ j h l. written-room (r .votes) (sized-says (passed .2) .wide .counts-size) (r .history .entries) (r .history .count) (recorded .history) j h l;
         }
 
     pub parents-fall : Falls (r .table .parents)
     parents-fall = gate-falls (r .graph) (r .table) (true-T _ (passed .0))
 
-    pub few-voters : r .context .voters .count ≤ 64
+    pub few-voters : r .context .voters .count ≤ VOTERS
     few-voters = good-means (r .context .voters) (true-T _ (passed .1)) .few
 
     -- history has entries of history
     pub fit-votes : Fit (r .history .entries) (r .history .count)
-    fit-votes = written-fit (r .votes) (sized-says (passed .2) .wide .times-size) (r .history .entries) (r .history .count) (recorded .history)
+    fit-votes = written-fit (r .votes) (sized-says (passed .2) .wide .counts-size) (r .history .entries) (r .history .count) (recorded .history)
 
-    pub few-votes : r .history .count ≤ 256
+    pub few-votes : r .history .count ≤ HISTORY
     few-votes = recorded .history .fits
 
 module _ (r : Round) (t : T (shaped r)) (w : List (List ℕ)) (e : w ≡ words-of (r .graph .rows)) where
@@ -194,11 +195,11 @@ module _ (r : Round) (t : T (shaped r)) (w : List (List ℕ)) (e : w ≡ words-o
 
 -- the rows keep their size over a vote
 pub import-sized : (f : Frame) (h : Held) → Ready f h → (phase : Phase) (signer : ℕ) (p : Pair)
-    → length (import f phase signer p h .held .graph .rows) ≡ 256
+    → length (import f phase signer p h .held .graph .rows) ≡ BLOCKS
 unfolding import
 import-sized f h ready phase signer p = go (verdict f phase signer p h) refl
   where
-    go : (x : Verdict) → verdict f phase signer p h ≡ x → length (apply f phase signer p h x .held .graph .rows) ≡ 256
+    go : (x : Verdict) → verdict f phase signer p h ≡ x → length (apply f phase signer p h x .held .graph .rows) ≡ BLOCKS
     go (verdicts.Nothing a) e = ready .sound .sized .rows-size
     go (verdicts.First v b) e = first-grounded f h ready phase signer p v b e _ _ refl .sound .sized .rows-size
     go (verdicts.Second v a) e = ready .sound .sized .rows-size

@@ -123,7 +123,7 @@ records es voters table v out = written (record-of v (voters .ids) (table .ids) 
 
 -- the wanted votes by rising voter
 unfoldable pub entries-of : Wanted → Round → List ℕ
-entries-of w r = keep (wants (r .votes .times) (r .votes .places) (r .table .parents) w) (by-voter (phase-in w) (r .context .voters .count))
+entries-of w r = keep (wants (r .votes .counts) (r .votes .«first_block») (r .table .parents) w) (by-voter (phase-in w) (r .context .voters .count))
 
 unfoldable pub listed : Wanted → Round → List ℕ → Lent
 listed w r out = records (entries-of w r) (r .context .voters) (r .table) (r .votes) out

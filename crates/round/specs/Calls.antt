@@ -4,6 +4,7 @@ use mathlib.Core.Bool.{cond}
 use mathlib.Core.List.{List}
 use Prim.Native.Nat.{ℕ}
 use lib.ListN.{replicate}
+use Rattle.sizes.specs.Sizes.{VOTERS, BLOCKS}
 use Rattle.voter_set.specs.declared.VoterSet.{VoterSet}
 use Rattle.voter_set.specs.Good.{good}
 use Rattle.blocks.specs.declared.BlockTable.{BlockTable}
@@ -59,10 +60,10 @@ opened number voters table base =
 
 -- beside a refusal: no voters and no blocks
 abbrev pub nobody : VoterSet
-nobody = record { ids = replicate 64 0; weights = replicate 64 0; count = 0; threshold = 0; total = 0 }
+nobody = record { ids = replicate VOTERS 0; weights = replicate VOTERS 0; count = 0; threshold = 0; total = 0 }
 
 abbrev pub no-blocks : BlockTable
-no-blocks = record { ids = replicate 256 0; numbers = replicate 256 0; parents = replicate 256 0; count = 0 }
+no-blocks = record { ids = replicate BLOCKS 0; numbers = replicate BLOCKS 0; parents = replicate BLOCKS 0; count = 0 }
 
 abbrev pub not-opened : ℕ → Kept
 not-opened n = record { answer = done.Refused n; round = opened 0 nobody no-blocks 0 }

@@ -5,6 +5,7 @@ use mathlib.Core.List.{List}
 use Prim.Native.Nat.{ℕ}
 use lib.Dec.{eqb, leb}
 use lib.ListN.{length}
+use Rattle.sizes.specs.Sizes.{WORDS, VOTES, HISTORY}
 use Rattle.voter_set.specs.Good.{good}
 use Rattle.nodes.specs.Nodes.{row}
 use Rattle.graph_rows.specs.Rows.{words-of}
@@ -43,16 +44,16 @@ held r = held-lent r (words-of (r .graph .rows))
 -- arrays of their sizes, which the types say of a round in code
 unfoldable pub sized : Held → Bool
 sized h =
-    eqb (length (h .votes .times)) 128
-    && (eqb (length (h .votes .places)) 128
-    && (eqb (length (h .votes .signatures)) 128
-    && (eqb (length (h .votes .targets)) 128
-    && (eqb (length (h .votes .numbers)) 128
-    && (eqb (length (h .votes .seconds)) 128 && (eqb (length (h .entries)) 256 && eqb (length (h .equivocations)) 2))))))
+    eqb (length (h .votes .counts)) VOTES
+    && (eqb (length (h .votes .«first_block»)) VOTES
+    && (eqb (length (h .votes .«first_signature»)) VOTES
+    && (eqb (length (h .votes .«second_target»)) VOTES
+    && (eqb (length (h .votes .«second_number»)) VOTES
+    && (eqb (length (h .votes .«second_signature»)) VOTES && (eqb (length (h .entries)) HISTORY && eqb (length (h .equivocations)) WORDS))))))
 
--- counts within sizes: history has at most 256 entries
+-- counts within sizes: history has at most HISTORY entries
 abbrev pub index-fits : Index → Bool
-index-fits (At n) = leb n 256
+index-fits (At n) = leb n HISTORY
 index-fits Nothing = true
 
 -- the recorded votes, and what is kept beside them, as document 01 lists it

@@ -4,7 +4,7 @@ ghost use mathlib.Core.Path.{_≡_};
 ghost use lib.Dec.{T};
 ghost use lib.ListN.{length};
 ghost use Prim.Native.Nat.{_≤_};
-ghost use Rattle.sizes.specs.Sizes.{HISTORY};
+ghost use Rattle.sizes.specs.Sizes.{WORDS, HISTORY};
 ghost use Rattle.loops.specs.Listing.{front};
 ghost use Rattle.entry_lists.specs.Entries.{Fit};
 ghost use Rattle.listing.specs.Written.{Lent};
@@ -27,7 +27,10 @@ use judging::ImportResult;
 use listing::Wanted;
 use listing::Written;
 use nodes::Found;
+use sizes::BLOCKS;
 use sizes::HISTORY;
+use sizes::VOTERS;
+use sizes::WORDS;
 use tracker::Pair;
 use tracker::Votes;
 use vote_graph::VoteGraph;
@@ -149,7 +152,7 @@ pub fn opened(number: u64, voters: VoterSet, table: BlockTable, base: u8) -> Rou
         number,
         context: Context {
             voters,
-            equivocations: [0u64; 2],
+            equivocations: [0u64; WORDS],
         },
         table,
         graph,
@@ -169,8 +172,8 @@ pub fn nobody() -> VoterSet
     ensures { λ r. ⌜ r ≡ nobody ⌝ }
 {
     VoterSet {
-        ids: [0u32; 64],
-        weights: [0u64; 64],
+        ids: [0u32; VOTERS],
+        weights: [0u64; VOTERS],
         count: 0,
         threshold: 0,
         total: 0,
@@ -181,9 +184,9 @@ pub fn no_blocks() -> BlockTable
     ensures { λ r. ⌜ r ≡ no-blocks ⌝ }
 {
     BlockTable {
-        ids: [0u32; 256],
-        numbers: [0u32; 256],
-        parents: [0u8; 256],
+        ids: [0u32; BLOCKS],
+        numbers: [0u32; BLOCKS],
+        parents: [0u8; BLOCKS],
         count: 0,
     }
 }
@@ -191,16 +194,16 @@ pub fn no_blocks() -> BlockTable
 // Whether nodes, equivocators and history tell the recorded votes. The arrays' lengths are known of a parameter.
 fn are_told<'a>(
     size: usize,
-    parents: &'a [u8; 256],
+    parents: &'a [u8; BLOCKS],
     base: u8,
-    used: &'a [bool; 256],
-    words: &'a [[u64; 2]; 256],
+    used: &'a [bool; BLOCKS],
+    words: &'a [[u64; WORDS]; BLOCKS],
     votes: Votes,
-    equivocations: [u64; 2],
+    equivocations: [u64; WORDS],
     history: History,
 ) -> bool
     requires { ⌜ Falls (now parents) ⌝ }
-    ensures { λ r. ⌜ (r ≡ voted size (now (parents .entry)) base (now (used .entry)) (now (words .entry)) votes equivocations (history .entries) (history .count)) × (Wide votes) × (length (history .entries) ≡ 256) × (length equivocations ≡ 2) ⌝ }
+    ensures { λ r. ⌜ (r ≡ voted size (now (parents .entry)) base (now (used .entry)) (now (words .entry)) votes equivocations (history .entries) (history .count)) × (Wide votes) × (length (history .entries) ≡ HISTORY) × (length equivocations ≡ WORDS) ⌝ }
 {
     vote_shape::is_voted(
         size,
@@ -208,12 +211,12 @@ fn are_told<'a>(
         base,
         used,
         words,
-        &votes.times,
-        &votes.places,
-        &votes.signatures,
-        &votes.targets,
-        &votes.numbers,
-        &votes.seconds,
+        &votes.counts,
+        &votes.first_block,
+        &votes.first_signature,
+        &votes.second_target,
+        &votes.second_number,
+        &votes.second_signature,
         equivocations,
         &history.entries,
         history.count,
@@ -224,12 +227,12 @@ fn index_fits(index: Index) -> bool
     ensures { λ r. ⌜ r ≡ index-fits index ⌝ }
 {
     match index {
-        Index::At(seen) => seen <= 256,
+        Index::At(seen) => seen <= HISTORY as u64,
         Index::Nothing => true,
     }
 }
 
-pub fn block_of<'a>(ids: &'a [u32; 256], numbers: &'a [u32; 256], found: Found) -> Told
+pub fn block_of<'a>(ids: &'a [u32; BLOCKS], numbers: &'a [u32; BLOCKS], found: Found) -> Told
     ensures { λ r. ⌜ r ≡ block-of (now (ids .entry)) (now (numbers .entry)) found ⌝ }
 {
     match found {
@@ -284,12 +287,12 @@ fn records(
     listing::write(
         &entries,
         count,
-        &votes.times,
-        &votes.places,
-        &votes.signatures,
-        &votes.targets,
-        &votes.numbers,
-        &votes.seconds,
+        &votes.counts,
+        &votes.first_block,
+        &votes.first_signature,
+        &votes.second_target,
+        &votes.second_number,
+        &votes.second_signature,
         &voters.ids,
         &table.ids,
         &table.numbers,
@@ -450,12 +453,12 @@ impl Round {
         let mut words = graph_rows::words_of(rows);
         let mut order = graph.order;
         let mut heads = graph.heads;
-        let mut times = votes.times;
-        let mut places = votes.places;
-        let mut signatures = votes.signatures;
-        let mut targets = votes.targets;
-        let mut numbers = votes.numbers;
-        let mut seconds = votes.seconds;
+        let mut counts = votes.counts;
+        let mut first_block = votes.first_block;
+        let mut first_signature = votes.first_signature;
+        let mut second_target = votes.second_target;
+        let mut second_number = votes.second_number;
+        let mut second_signature = votes.second_signature;
         let mut entries = history.entries;
         let equivocations = context.equivocations;
         let heard = self.heard;
@@ -485,12 +488,12 @@ impl Round {
             &mut words,
             &mut order,
             &mut heads,
-            &mut times,
-            &mut places,
-            &mut signatures,
-            &mut targets,
-            &mut numbers,
-            &mut seconds,
+            &mut counts,
+            &mut first_block,
+            &mut first_signature,
+            &mut second_target,
+            &mut second_number,
+            &mut second_signature,
             &mut entries,
             standing,
             phase,
@@ -523,12 +526,12 @@ impl Round {
         };
         self.graph = graph_after;
         let votes_after = Votes {
-            times,
-            places,
-            signatures,
-            targets,
-            numbers,
-            seconds,
+            counts,
+            first_block,
+            first_signature,
+            second_target,
+            second_number,
+            second_signature,
         };
         self.votes = votes_after;
         let history_after = History {
@@ -848,8 +851,8 @@ impl Round {
         let table = self.table;
         let votes = self.votes;
         let list = listing::entries_of(
-            &votes.times,
-            &votes.places,
+            &votes.counts,
+            &votes.first_block,
             &table.parents,
             voters.count,
             wanted,

@@ -5,6 +5,7 @@ use Prim.Native.Nat.{ℕ, _≤_}
 use native.Mathlib.Omega.{arith}
 use lib.Dec.{T, leb}
 use borrow.Author.Tests.{le-leb}
+use Rattle.sizes.specs.Sizes.{HISTORY}
 use Rattle.loops.proofs.Tests.{T-true}
 use Rattle.weights.specs.Weights.{most}
 use Rattle.voter_set.specs.declared.VoterSet.{VoterSet}
@@ -127,8 +128,8 @@ module _ (r : Round) (fits : Fits r) (t : T (shaped r)) where
   index-shaped phase =
       on-true (λ (x : round.Kept). T (shaped (x .round))) (shaped r) _ _ t (go phase)
     where
-      few : T (leb (r .history .count) 256)
-      few = T-true (le-leb _ 256 (kept .recorded .history .fits))
+      few : T (leb (r .history .count) HISTORY)
+      few = T-true (le-leb _ HISTORY (kept .recorded .history .fits))
 
       go : (phase : Phase) → T (shaped (with-history r (marked phase (r .history))))
       go Prevote =

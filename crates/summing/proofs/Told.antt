@@ -5,6 +5,7 @@ use mathlib.Core.Path.{_≡_, refl, sym, ap, subst, _∙_}
 use Prim.Native.Nat.{ℕ, _-_, _≤_}
 use native.Mathlib.Omega.{arith}
 use lib.ListN.{length, take, drop, set, replicate, length-drop, length-set, length-replicate}
+use Rattle.sizes.specs.Sizes.{WORDS, PAIRS, BLOCKS}
 use Rattle.lent.specs.Moment.{plain}
 use Rattle.columns.specs.Lists.{padded}
 use Rattle.weights.specs.Weights.{plus}
@@ -81,7 +82,7 @@ ends-at : (m n a : ℕ) (bs : List ℕ) (j : turns.Journal) → told m j bs ≡ 
 ends-at m n a bs j e k f r g = g ∙ (λ i. bare Early (f i) (sym (length-drop a bs) i)) ∙ sym e
 
 -- the first turn
-module _ (m : ℕ) (p : Pairs) (few : p .count ≤ 256) (q : Pairs) (n a : ℕ) (bs : List ℕ) (x : End) (e : ended q n (drop a bs) x ≡ ran paired p bs)
+module _ (m : ℕ) (p : Pairs) (few : p .count ≤ PAIRS) (q : Pairs) (n a : ℕ) (bs : List ℕ) (x : End) (e : ended q n (drop a bs) x ≡ ran paired p bs)
     (k : ℕ) (sum : k ≡ plus m n) (r : Summary) where
   matched : (y : End) → x ≡ y → ended q n (drop a bs) y ≡ ran paired p bs
   matched y f = ap (λ (z : End). ended q n (drop a bs) z) (sym f) ∙ e
@@ -127,11 +128,11 @@ module _ (m : ℕ) (v : VoterSet) (o : BlockTable) (stands : Stands Kept (growin
     blocks-stop z f =
         stops-at m n (growing v o) (laid (growing v u)) bs (drop a bs) z (blocks-refused v o u (stands .2) n bs (drop a bs) z (same (Refused z) f)) k sum r
 
-pub opened-room : (a b : ℕ) (t : BlockTable) → t ≡ table.opened a b → (t .count ≤ 256) × (length (t .ids) ≡ 256)
+pub opened-room : (a b : ℕ) (t : BlockTable) → t ≡ table.opened a b → (t .count ≤ BLOCKS) × (length (t .ids) ≡ BLOCKS)
 unfolding table.opened
 opened-room a b t e =
-    subst (λ (u : BlockTable). (u .count ≤ 256) × (length (u .ids) ≡ 256)) (sym e)
-    (omega arith, length-set (replicate 256 0) 0 a ∙ length-replicate {A = ℕ} 256 0)
+    subst (λ (u : BlockTable). (u .count ≤ BLOCKS) × (length (u .ids) ≡ BLOCKS)) (sym e)
+    (omega arith, length-set (replicate BLOCKS 0) 0 a ∙ length-replicate {A = ℕ} BLOCKS 0)
 
 -- the Rt
 module _ (m : ℕ) (p : Pairs) (bs : List ℕ) (is-rt : read bs ≡ is.Whole Rt) (fs : List ℕ) (all : fs ≡ fields Rt bs) (made : NewVoterSet)
@@ -179,8 +180,8 @@ module _ (m : ℕ) (v : VoterSet) (t : BlockTable) (stands : Stands Kept (growin
 -- the third turn, from columns that code has just blanked
 abbrev blanked : ℕ → ℕ → Standing → Held
 blanked w b z =
-    held-at plain (set (replicate 256 false) w true) (replicate 256 0) (replicate 256 (0 ∷ 0 ∷ [])) (replicate 256 0) (set (replicate 256 0) 0 b)
-    (no-votes .times) (no-votes .places) (no-votes .signatures) (no-votes .targets) (no-votes .numbers) (no-votes .seconds) (replicate 256 0) z
+    held-at plain (set (replicate BLOCKS false) w true) (replicate BLOCKS 0) (replicate BLOCKS (replicate WORDS 0)) (replicate BLOCKS 0) (set (replicate BLOCKS 0) 0 b)
+    (no-votes .counts) (no-votes .«first_block») (no-votes .«first_signature») (no-votes .«second_target») (no-votes .«second_number») (no-votes .«second_signature») (replicate BLOCKS 0) z
 
 is-opened : (w b : ℕ) → w ≡ b → (z : Standing) → z ≡ blank → blanked w b z ≡ opened-held b
 unfolding graph.opened padded

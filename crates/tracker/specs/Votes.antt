@@ -10,57 +10,57 @@ use Rattle.tracker.specs.declared.Votes.{Votes}
 
 abbrev pub votes-at : (m : Moment) → m .Column (List ℕ) → m .Column (List ℕ) → m .Column (List ℕ) → m .Column (List ℕ) → m .Column (List ℕ)
     → m .Column (List ℕ) → Votes
-votes-at m times places signatures targets numbers seconds =
+votes-at m counts first-block first-signature second-target second-number second-signature =
     record {
-      times = m .list (List ℕ) times;
-      places = m .list (List ℕ) places;
-      signatures = m .list (List ℕ) signatures;
-      targets = m .list (List ℕ) targets;
-      numbers = m .list (List ℕ) numbers;
-      seconds = m .list (List ℕ) seconds;
+      counts = m .list (List ℕ) counts;
+      «first_block» = m .list (List ℕ) first-block;
+      «first_signature» = m .list (List ℕ) first-signature;
+      «second_target» = m .list (List ℕ) second-target;
+      «second_number» = m .list (List ℕ) second-number;
+      «second_signature» = m .list (List ℕ) second-signature;
     }
 
 -- what the columns are by their types
 pub record Wide (v : Votes) : Type 0 where
-  pub times-size : length (v .times) ≡ VOTES
-  pub places-size : length (v .places) ≡ VOTES
-  pub signatures-size : length (v .signatures) ≡ VOTES
-  pub targets-size : length (v .targets) ≡ VOTES
-  pub numbers-size : length (v .numbers) ≡ VOTES
-  pub seconds-size : length (v .seconds) ≡ VOTES
+  pub counts-size : length (v .counts) ≡ VOTES
+  pub first-block-size : length (v .«first_block») ≡ VOTES
+  pub first-signature-size : length (v .«first_signature») ≡ VOTES
+  pub second-target-size : length (v .«second_target») ≡ VOTES
+  pub second-number-size : length (v .«second_number») ≡ VOTES
+  pub second-signature-size : length (v .«second_signature») ≡ VOTES
 
 -- no vote
 abbrev pub no-votes : Votes
 no-votes =
     record {
-      times = replicate VOTES 0;
-      places = replicate VOTES 0;
-      signatures = replicate VOTES 0;
-      targets = replicate VOTES 0;
-      numbers = replicate VOTES 0;
-      seconds = replicate VOTES 0;
+      counts = replicate VOTES 0;
+      «first_block» = replicate VOTES 0;
+      «first_signature» = replicate VOTES 0;
+      «second_target» = replicate VOTES 0;
+      «second_number» = replicate VOTES 0;
+      «second_signature» = replicate VOTES 0;
     }
 
 -- a first pair recorded at an index
 abbrev pub with-first : Votes → ℕ → ℕ → ℕ → Votes
 with-first v j place signature =
     record {
-      times = set (v .times) j 1;
-      places = set (v .places) j place;
-      signatures = set (v .signatures) j signature;
-      targets = v .targets;
-      numbers = v .numbers;
-      seconds = v .seconds;
+      counts = set (v .counts) j 1;
+      «first_block» = set (v .«first_block») j place;
+      «first_signature» = set (v .«first_signature») j signature;
+      «second_target» = v .«second_target»;
+      «second_number» = v .«second_number»;
+      «second_signature» = v .«second_signature»;
     }
 
 -- a second
 abbrev pub with-second : Votes → ℕ → ℕ → ℕ → ℕ → Votes
 with-second v j target number signature =
     record {
-      times = set (v .times) j 2;
-      places = v .places;
-      signatures = v .signatures;
-      targets = set (v .targets) j target;
-      numbers = set (v .numbers) j number;
-      seconds = set (v .seconds) j signature;
+      counts = set (v .counts) j 2;
+      «first_block» = v .«first_block»;
+      «first_signature» = v .«first_signature»;
+      «second_target» = set (v .«second_target») j target;
+      «second_number» = set (v .«second_number») j number;
+      «second_signature» = set (v .«second_signature») j signature;
     }

@@ -4,6 +4,7 @@
 use mathlib.Core.List.{List}
 use Prim.Native.Nat.{ℕ}
 use lib.ListN.{take, replicate}
+use Rattle.sizes.specs.Sizes.{PAIRS}
 use Rattle.voter_set.specs.declared.VoterSet.{VoterSet}
 use Rattle.voter_set.specs.declared.Answer.{Answer}
 use Rattle.voter_set.specs.declared.Answer.the-variants.{Made, Refused}
@@ -54,7 +55,7 @@ took (voting r) m fs = on-next (voted r m fs) (λ s. goes (voting s)) stops (sto
 
 -- before the first record
 abbrev pub no-pairs : Pairs
-no-pairs = record { ids = replicate 256 0; weights = replicate 256 0; count = 0 }
+no-pairs = record { ids = replicate PAIRS 0; weights = replicate PAIRS 0; count = 0 }
 
 -- a journal's bytes: the records up to the first refusal, how many were taken, the bytes after them, and why no more are taken
 unfoldable pub replayed : List ℕ → Run Journal

@@ -25,11 +25,11 @@ voted phase p (x ∷ xs) column = voted phase (suc p) xs (set column (bit phase 
 column : List ℕ → List ℕ → List ℕ
 column prevotes precommits = voted Prevote 0 prevotes (voted Precommit 0 precommits (replicate VOTES 0))
 
-times : List ℕ
-times = column (1 ∷ 2 ∷ 1 ∷ 1 ∷ 0 ∷ []) (1 ∷ 1 ∷ 1 ∷ 2 ∷ 0 ∷ [])
+counts : List ℕ
+counts = column (1 ∷ 2 ∷ 1 ∷ 1 ∷ 0 ∷ []) (1 ∷ 1 ∷ 1 ∷ 2 ∷ 0 ∷ [])
 
-places : List ℕ
-places = column (2 ∷ 2 ∷ 2 ∷ 2 ∷ 0 ∷ []) (2 ∷ 2 ∷ 2 ∷ 1 ∷ 0 ∷ [])
+first-block : List ℕ
+first-block = column (2 ∷ 2 ∷ 2 ∷ 2 ∷ 0 ∷ []) (2 ∷ 2 ∷ 2 ∷ 1 ∷ 0 ∷ [])
 
 others : List ℕ
 others = column (1 ∷ 1 ∷ 1 ∷ 2 ∷ 2 ∷ []) (1 ∷ 1 ∷ 0 ∷ 1 ∷ 2 ∷ [])
@@ -40,19 +40,19 @@ theirs = column (3 ∷ 3 ∷ 3 ∷ 3 ∷ 2 ∷ []) (2 ∷ 3 ∷ 0 ∷ 1 ∷ 2 �
 abbrev weights : List ℕ
 weights = 5 ∷ 6 ∷ 7 ∷ 8 ∷ 9 ∷ []
 
-three-differ : differing times places others theirs weights 5 ≡ 23
-unfolding differing apart sum voted column times places others theirs bit index layout.bit RUN
+three-differ : differing counts first-block others theirs weights 5 ≡ 23
+unfolding differing apart sum voted column counts first-block others theirs bit index layout.bit RUN
 three-differ = refl
 
-either-way : differing others theirs times places weights 5 ≡ 23
-unfolding differing apart sum voted column times places others theirs bit index layout.bit RUN
+either-way : differing others theirs counts first-block weights 5 ≡ 23
+unfolding differing apart sum voted column counts first-block others theirs bit index layout.bit RUN
 either-way = refl
 
 -- a view and itself: its equivocator
-one-view : differing times places times places weights 5 ≡ 8
-unfolding differing apart sum voted column times places others theirs bit index layout.bit RUN
+one-view : differing counts first-block counts first-block weights 5 ≡ 8
+unfolding differing apart sum voted column counts first-block others theirs bit index layout.bit RUN
 one-view = refl
 
-columns-differ : same places theirs ≡ false
-unfolding same all voted column places theirs bit index layout.bit RUN
+columns-differ : same first-block theirs ≡ false
+unfolding same all voted column first-block theirs bit index layout.bit RUN
 columns-differ = refl

@@ -8,6 +8,7 @@ use native.Mathlib.Decide.{ℕ-discrete}
 use native.Mathlib.Omega.{arith}
 use lib.Dec.{T, eqb, leb, leb→le}
 use borrow.Author.Tests.{eq-eqb, ne-eqb}
+use Rattle.sizes.specs.Sizes.{VOTERS, VOTES}
 use Rattle.loops.proofs.Tests.{left-of, right-of, either}
 use Rattle.loops.proofs.Alls.{all-at}
 use Rattle.loops.proofs.Sums.{weigh-cong}
@@ -45,7 +46,7 @@ target-at used (suc (suc n)) b x h e = go (either (leb (suc (suc n)) 0) (used b)
     go (inr u) = subst (λ (y : ℕ). T (used y)) e u
 
 module _ (r : Round) (t : T (shaped r)) where
-  targets-tested : T (targets-used (r .graph .used) (r .votes .times) (r .votes .places))
+  targets-tested : T (targets-used (r .graph .used) (r .votes .counts) (r .votes .«first_block»))
   unfolding shaped tells-votes voted noded
   targets-tested =
       let a = right-of (is-graph (r .graph) (r .table)) _ t in
@@ -53,16 +54,16 @@ module _ (r : Round) (t : T (shaped r)) where
       let c = right-of (sized (held r)) _ b in
       let d = left-of (tells-votes (frame r) (held r)) _ c in
       let e = right-of (tidy (r .context .voters .count) (r .votes)) _ d in
-      let f = left-of (noded (r .graph .base) (r .graph .used) (r .votes .times) (r .votes .places)) _ e in
-      left-of (targets-used (r .graph .used) (r .votes .times) (r .votes .places)) _ (right-of (flag (r .graph .used) (r .graph .base)) _ f)
+      let f = left-of (noded (r .graph .base) (r .graph .used) (r .votes .counts) (r .votes .«first_block»)) _ e in
+      left-of (targets-used (r .graph .used) (r .votes .counts) (r .votes .«first_block»)) _ (right-of (flag (r .graph .used) (r .graph .base)) _ f)
 
   -- a recorded first target is in the table
-  pub target-tabled : (j : ℕ) → j < 128 → (x : ℕ) → Targets (cast (r .votes) j) x → x < r .table .count
+  pub target-tabled : (j : ℕ) → j < VOTES → (x : ℕ) → Targets (cast (r .votes) j) x → x < r .table .count
   unfolding targets-used cast
   target-tabled j h x e =
       graph-kept r t .sound .nodes .tabled x
-      (target-at (flag (r .graph .used)) (col (r .votes .times) j) (col (r .votes .places) j) x
-      (all-at (λ i. leb (col (r .votes .times) i) 0 || flag (r .graph .used) (col (r .votes .places) i)) 128 targets-tested j h) e)
+      (target-at (flag (r .graph .used)) (col (r .votes .counts) j) (col (r .votes .«first_block») j) x
+      (all-at (λ i. leb (col (r .votes .counts) i) 0 || flag (r .graph .used) (col (r .votes .«first_block») i)) VOTES targets-tested j h) e)
 
 module _ (ids : List ℕ) (n : ℕ) (distinct : (s x : ℕ) → s < n → x < n → col ids s ≡ col ids x → s ≡ x) where
   place-by : (s x : ℕ) → s < n → x < n → eqb s x ≡ eqb (col ids s) (col ids x)
@@ -100,17 +101,17 @@ views-by-id a b s t o =
     subst (λ (y : BlockTable). two-views (voters a) (precommits a) (precommits b) ≡ two-views (voters a) (λ p. by-id (a .table .ids) (precommits a p)) (λ p. by-id (y .ids) (precommits b p)))
     (o .table) here
   where
-    few : a .context .voters .count ≤ 64
+    few : a .context .voters .count ≤ VOTERS
     few = voters-good a s .few
 
-    in-words : (p : ℕ) → p < a .context .voters .count → bit Precommit p < 128
+    in-words : (p : ℕ) → p < a .context .voters .count → bit Precommit p < VOTES
     in-words p h = bit-few Precommit p (omega (arith, few))
 
     apart : (x y : ℕ) → x < a .table .count → y < a .table .count → col (a .table .ids) x ≡ col (a .table .ids) y → x ≡ y
     apart x y h k e =
         graph-kept a s .table .distinct (col (a .table .ids) y) x y (record { inside = h; named = e }) (record { inside = k; named = refl })
 
-    inside : (j : ℕ) → j < 128 → (x : ℕ) → Targets (cast (b .votes) j) x → x < a .table .count
+    inside : (j : ℕ) → j < VOTES → (x : ℕ) → Targets (cast (b .votes) j) x → x < a .table .count
     inside j h x e = subst (λ (y : BlockTable). x < y .count) (sym (o .table)) (target-tabled b t j h x e)
 
     here : two-views (voters a) (precommits a) (precommits b)

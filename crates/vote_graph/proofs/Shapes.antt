@@ -6,6 +6,7 @@ use Prim.Native.Nat.{ℕ}
 use lib.Dec.{T, eqb, eqb→eq}
 use lib.ListN.{length}
 use borrow.Author.Tests.{eq-eqb}
+use Rattle.sizes.specs.Sizes.{WORDS, BLOCKS}
 use Rattle.loops.specs.All.{all}
 use Rattle.loops.proofs.Tests.{T-true, true-T, both, left-of, right-of}
 use Rattle.loops.proofs.Alls.{all-at, all-intro}
@@ -30,28 +31,28 @@ module _ (c : Columns) where
   pub sized-says : T (sized c) → Sized c
   unfolding sized
   sized-says t =
-      let a = right-of (eqb (length (c .used)) 256) _ t in
-      let b = right-of (eqb (length (c .above)) 256) _ a in
-      let d = right-of (eqb (length (c .rows)) 256) _ b in
-      let e = right-of (all 256 (λ k. eqb (length (row (c .rows) k)) 2)) _ d in
+      let a = right-of (eqb (length (c .used)) BLOCKS) _ t in
+      let b = right-of (eqb (length (c .above)) BLOCKS) _ a in
+      let d = right-of (eqb (length (c .rows)) BLOCKS) _ b in
+      let e = right-of (all BLOCKS (λ k. eqb (length (row (c .rows) k)) WORDS)) _ d in
       record {
-        used-size = eqb→eq _ _ (left-of (eqb (length (c .used)) 256) _ t);
-        above-size = eqb→eq _ _ (left-of (eqb (length (c .above)) 256) _ a);
-        rows-size = eqb→eq _ _ (left-of (eqb (length (c .rows)) 256) _ b);
-        row-size = λ x h. eqb→eq _ _ (all-at (λ k. eqb (length (row (c .rows) k)) 2) 256 (left-of (all 256 (λ k. eqb (length (row (c .rows) k)) 2)) _ d) x h);
-        order-size = eqb→eq _ _ (left-of (eqb (length (c .order)) 256) _ e);
-        heads-size = eqb→eq _ _ (right-of (eqb (length (c .order)) 256) _ e);
+        used-size = eqb→eq _ _ (left-of (eqb (length (c .used)) BLOCKS) _ t);
+        above-size = eqb→eq _ _ (left-of (eqb (length (c .above)) BLOCKS) _ a);
+        rows-size = eqb→eq _ _ (left-of (eqb (length (c .rows)) BLOCKS) _ b);
+        row-size = λ x h. eqb→eq _ _ (all-at (λ k. eqb (length (row (c .rows) k)) WORDS) BLOCKS (left-of (all BLOCKS (λ k. eqb (length (row (c .rows) k)) WORDS)) _ d) x h);
+        order-size = eqb→eq _ _ (left-of (eqb (length (c .order)) BLOCKS) _ e);
+        heads-size = eqb→eq _ _ (right-of (eqb (length (c .order)) BLOCKS) _ e);
       }
 
   pub says-sized : Sized c → T (sized c)
   unfolding sized
   says-sized s =
-      both (eqb (length (c .used)) 256) _ (T-true (eq-eqb _ _ (s .used-size)))
-      (both (eqb (length (c .above)) 256) _ (T-true (eq-eqb _ _ (s .above-size)))
-      (both (eqb (length (c .rows)) 256) _ (T-true (eq-eqb _ _ (s .rows-size)))
-      (both (all 256 (λ k. eqb (length (row (c .rows) k)) 2)) _
-      (all-intro (λ k. eqb (length (row (c .rows) k)) 2) 256 (λ k h. T-true (eq-eqb _ _ (s .row-size k h))))
-      (both (eqb (length (c .order)) 256) _ (T-true (eq-eqb _ _ (s .order-size))) (T-true (eq-eqb _ _ (s .heads-size)))))))
+      both (eqb (length (c .used)) BLOCKS) _ (T-true (eq-eqb _ _ (s .used-size)))
+      (both (eqb (length (c .above)) BLOCKS) _ (T-true (eq-eqb _ _ (s .above-size)))
+      (both (eqb (length (c .rows)) BLOCKS) _ (T-true (eq-eqb _ _ (s .rows-size)))
+      (both (all BLOCKS (λ k. eqb (length (row (c .rows) k)) WORDS)) _
+      (all-intro (λ k. eqb (length (row (c .rows) k)) WORDS) BLOCKS (λ k h. T-true (eq-eqb _ _ (s .row-size k h))))
+      (both (eqb (length (c .order)) BLOCKS) _ (T-true (eq-eqb _ _ (s .order-size))) (T-true (eq-eqb _ _ (s .heads-size)))))))
 
 -- a graph that keeps its shape on a table that does
 pub record Kept (g : VoteGraph) (t : BlockTable) : Type 0 where

@@ -5,6 +5,7 @@ use mathlib.Core.List.{List}
 use Prim.Native.Nat.{ℕ, _<_}
 use lib.Dec.{T, eqb}
 use lib.ListN.{length}
+use Rattle.sizes.specs.Sizes.{WORDS, BLOCKS}
 use Rattle.loops.specs.All.{all}
 use Rattle.grandpa.specs.Tree.{below}
 use Rattle.blocks.specs.declared.BlockTable.{BlockTable}
@@ -40,13 +41,13 @@ graph-with base c rows =
 abbrev pub graph-of : ℕ → Columns → VoteGraph
 graph-of base c = graph-with base c (rows-of (c .rows))
 
--- arrays of 256, rows of two words, which the types say of a graph in code
+-- arrays of BLOCKS, rows of WORDS, which the types say of a graph in code
 unfoldable pub sized : Columns → Bool
 sized c =
-    eqb (length (c .used)) 256
-    && (eqb (length (c .above)) 256
-    && (eqb (length (c .rows)) 256
-    && (all 256 (λ k. eqb (length (row (c .rows) k)) 2) && (eqb (length (c .order)) 256 && eqb (length (c .heads)) 256))))
+    eqb (length (c .used)) BLOCKS
+    && (eqb (length (c .above)) BLOCKS
+    && (eqb (length (c .rows)) BLOCKS
+    && (all BLOCKS (λ k. eqb (length (row (c .rows) k)) WORDS) && (eqb (length (c .order)) BLOCKS && eqb (length (c .heads)) BLOCKS))))
 
 -- the table keeps its shape rules, and the graph its own on that table
 unfoldable pub is-graph : VoteGraph → BlockTable → Bool

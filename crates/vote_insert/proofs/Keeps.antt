@@ -10,6 +10,7 @@ use lib.Dec.{T, eqb, eqb→eq, T-not}
 use lib.ListN.{set, length, length-set}
 use lib.Seq.{getD-set-same, getD-set-other}
 use borrow.Author.Tests.{eq-eqb, ne-eqb}
+use Rattle.sizes.specs.Sizes.{WORDS, BLOCKS}
 use Rattle.loops.specs.Listing.{times, keep, fold, front}
 use Rattle.loops.proofs.Tests.{T-true, T-false, or-false, by-test, either}
 use Rattle.loops.proofs.Listings.{times-here, times-past, times-none, times-keep, kept-in, length-front}
@@ -99,16 +100,16 @@ module _ (x : ℕ) where
   length-set-all [] xs = refl
   length-set-all (m ∷ ms) xs = length-set-all ms (set xs m x) ∙ simp length-set
 
-clear : (l : List ℕ) → padded 256 l ≡ padded 256 (front (length l) (padded 256 l))
-clear l = ap (padded 256) (sym (front-padded 256 l))
+clear : (l : List ℕ) → padded BLOCKS l ≡ padded BLOCKS (front (length l) (padded BLOCKS l))
+clear l = ap (padded BLOCKS) (sym (front-padded BLOCKS l))
 
 -- nodes are as few as the places
-module _ (up ids : ℕ → ℕ) (base count : ℕ) (used : ℕ → Bool) (order heads : List ℕ) (nodes : Nodes up ids base count used order heads) (small : count ≤ 256) where
-  few-listed : length order ≤ 256
-  few-listed = pigeon 256 order (λ x h. let r = nodes .list-only x h in (omega (arith, nodes .tabled x (r .0)), omega (arith, nodes .listed x (r .0) (r .1))))
+module _ (up ids : ℕ → ℕ) (base count : ℕ) (used : ℕ → Bool) (order heads : List ℕ) (nodes : Nodes up ids base count used order heads) (small : count ≤ BLOCKS) where
+  few-listed : length order ≤ BLOCKS
+  few-listed = pigeon BLOCKS order (λ x h. let r = nodes .list-only x h in (omega (arith, nodes .tabled x (r .0)), omega (arith, nodes .listed x (r .0) (r .1))))
 
-  few-heads : length heads ≤ 256
-  few-heads = pigeon 256 heads (λ x h. let r = nodes .head-only x h in (omega (arith, nodes .tabled x (r .0)), omega (arith, nodes .headed x (r .0) (r .1))))
+  few-heads : length heads ≤ BLOCKS
+  few-heads = pigeon BLOCKS heads (λ x h. let r = nodes .head-only x h in (omega (arith, nodes .tabled x (r .0)), omega (arith, nodes .headed x (r .0) (r .1))))
 
 module _ (parents ids : List ℕ) (base count t : ℕ) (in-base : T (below (col parents) base t)) (in-table : t < count) where
   abbrev up : ℕ → ℕ
@@ -134,7 +135,7 @@ module _ (parents ids : List ℕ) (base count t : ℕ) (in-base : T (below (col 
     bare-T : T (not (used t))
     bare-T = T-false bare
 
-    place : t < 256
+    place : t < BLOCKS
     place = omega (arith, sound .small)
 
     ms-is : ms ≡ containing up used heads t
@@ -164,8 +165,8 @@ module _ (parents ids : List ℕ) (base count t : ℕ) (in-base : T (below (col 
         λ i. record {
           used = λ x. used-is x i;
           bits = λ x. bits-are x i;
-          order = (front-padded 256 (relist t ms order) ∙ ap (λ (l : List ℕ). relist t l order) ms-is) i;
-          heads = (front-padded 256 (rehead (col ids) t ms over heads) ∙ ap (λ (l : List ℕ). rehead (col ids) t l over heads) ms-is) i;
+          order = (front-padded BLOCKS (relist t ms order) ∙ ap (λ (l : List ℕ). relist t l order) ms-is) i;
+          heads = (front-padded BLOCKS (rehead (col ids) t ms over heads) ∙ ap (λ (l : List ℕ). rehead (col ids) t l over heads) ms-is) i;
         }
 
     -- the node above t
@@ -231,10 +232,10 @@ module _ (parents ids : List ℕ) (base count t : ℕ) (in-base : T (below (col 
             let h : 0 < times x ms = omega arith in
             above-member x n h ∙ sym (near-member up (col ids) (sound .parents-fall) base count (view g) (sound .nodes) t in-base in-table bare-T x (member x h))
 
-    sizes : (x : ℕ) → x < 256 → length (row (set (g .rows) t (join-of (row (g .rows)) ms)) x) ≡ 2
+    sizes : (x : ℕ) → x < BLOCKS → length (row (set (g .rows) t (join-of (row (g .rows)) ms)) x) ≡ WORDS
     sizes x l =
         ap length (bits-are x)
-        ∙ by-test (λ (v : List ℕ). length v ≡ 2) (eqb x t) (join-of (row (g .rows)) (containing up used heads t)) (row (g .rows) x)
+        ∙ by-test (λ (v : List ℕ). length v ≡ WORDS) (eqb x t) (join-of (row (g .rows)) (containing up used heads t)) (row (g .rows) x)
         (λ e. length-join (row (g .rows)) (containing up used heads t)) (λ e. sound .sized .row-size x l)
 
     module _ (apart : (y : ℕ) → T (used y) → col ids y ≢ col ids t) where
@@ -243,11 +244,11 @@ module _ (parents ids : List ℕ) (base count t : ℕ) (in-base : T (below (col 
           subst (λ (h : Graph). Nodes up (col ids) base count (h .used) (h .order) (h .heads)) (sym view-added)
           (added-nodes up (col ids) (sound .parents-fall) base count (view g) (sound .nodes) t in-base in-table bare-T apart)
 
-      list-fits : added parents ids t g .listed ≤ 256
+      list-fits : added parents ids t g .listed ≤ BLOCKS
       list-fits =
           omega (arith, few-listed up (col ids) base count _ _ _ nodes-after (sound .small), length-front (added parents ids t g .listed) (added parents ids t g .order))
 
-      heads-fit : added parents ids t g .tips ≤ 256
+      heads-fit : added parents ids t g .tips ≤ BLOCKS
       heads-fit =
           omega (arith, few-heads up (col ids) base count _ _ _ nodes-after (sound .small), length-front (added parents ids t g .tips) (added parents ids t g .heads))
 
@@ -267,8 +268,8 @@ module _ (parents ids : List ℕ) (base count t : ℕ) (in-base : T (below (col 
               above-size = simp length-set (length-set-all t ms (g .above) ∙ sound .sized .above-size);
               rows-size = simp length-set (sound .sized .rows-size);
               row-size = sizes;
-              order-size = length-padded 256 (relist t ms order) list-fits;
-              heads-size = length-padded 256 (rehead (col ids) t ms over heads) heads-fit;
+              order-size = length-padded BLOCKS (relist t ms order) list-fits;
+              heads-size = length-padded BLOCKS (rehead (col ids) t ms over heads) heads-fit;
             };
             order-clear = clear (relist t ms order);
             heads-clear = clear (rehead (col ids) t ms over heads);
@@ -303,7 +304,7 @@ module _ (parents ids : List ℕ) (base count t : ℕ) (in-base : T (below (col 
             rows-size = length-marked (h .above) (sound .above-falls) base j t (h .rows) ∙ sound .sized .rows-size;
             row-size = λ x l.
                 ap length (bits-after x)
-                ∙ by-test (λ (v : List ℕ). length v ≡ 2) (flag (h .used) x && below up x t) (put (row (h .rows) x) j) (row (h .rows) x)
+                ∙ by-test (λ (v : List ℕ). length v ≡ WORDS) (flag (h .used) x && below up x t) (put (row (h .rows) x) j) (row (h .rows) x)
                 (λ e. length-put (row (h .rows) x) j ∙ sound .sized .row-size x l) (λ e. sound .sized .row-size x l);
             order-size = sound .sized .order-size;
             heads-size = sound .sized .heads-size;

@@ -8,6 +8,7 @@ use mathlib.Core.Path.{_≡_}
 use Prim.Native.Nat.{ℕ, _≤_, _<_}
 use lib.Dec.{T, ltb}
 use lib.ListN.{length, set, replicate}
+use Rattle.sizes.specs.Sizes.{WORDS, HISTORY}
 use Rattle.layouts.specs.Layout.{index-place}
 use Rattle.loops.specs.Listing.{times, front}
 use Rattle.columns.specs.Lists.{padded}
@@ -20,16 +21,16 @@ use Rattle.tracker.specs.Recorded.{cast, paired}
 
 -- no more than two pairs, none of a voter past the last, and 0 where there is none
 pub record Tidy (size : ℕ) (v : Votes) : Type 0 where
-  pub few : (j : ℕ) → col (v .times) j ≤ 2
-  pub none-past : (j : ℕ) → size ≤ index-place j → col (v .times) j ≡ 0
-  pub no-first : (j : ℕ) → col (v .times) j ≡ 0 → (col (v .places) j ≡ 0) × (col (v .signatures) j ≡ 0)
-  pub no-second : (j : ℕ) → col (v .times) j ≤ 1 → (col (v .targets) j ≡ 0) × (col (v .numbers) j ≡ 0) × (col (v .seconds) j ≡ 0)
+  pub few : (j : ℕ) → col (v .counts) j ≤ 2
+  pub none-past : (j : ℕ) → size ≤ index-place j → col (v .counts) j ≡ 0
+  pub no-first : (j : ℕ) → col (v .counts) j ≡ 0 → (col (v .«first_block») j ≡ 0) × (col (v .«first_signature») j ≡ 0)
+  pub no-second : (j : ℕ) → col (v .counts) j ≤ 1 → (col (v .«second_target») j ≡ 0) × (col (v .«second_number») j ≡ 0) × (col (v .«second_signature») j ≡ 0)
 
 -- history: the recorded pairs, once each, and no other entry
 pub record Written (v : Votes) (entries : List ℕ) (count : ℕ) : Type 0 where
-  pub fits : count ≤ 256
-  pub each : (e : ℕ) → times e (front count entries) ≡ cond (paired (v .times) e) 1 0
-  pub clear : entries ≡ padded 256 (front count entries)
+  pub fits : count ≤ HISTORY
+  pub each : (e : ℕ) → times e (front count entries) ≡ cond (paired (v .counts) e) 1 0
+  pub clear : entries ≡ padded HISTORY (front count entries)
 
 -- the whole
 pub record Recorded (size : ℕ) (parents : List ℕ) (base : ℕ) (used : List Bool) (rows : List (List ℕ)) (v : Votes)
@@ -39,5 +40,5 @@ pub record Recorded (size : ℕ) (parents : List ℕ) (base : ℕ) (used : List 
   pub nodes-voted : Voted (cast v) (flag used)
   pub nodes-only : Used-only base (cast v) (flag used)
   pub bits : Bits (col parents) (cast v) (flag used) (row rows)
-  pub equivocators : (length equivocations ≡ 2) × ((j : ℕ) → has equivocations j ≡ equivocated (cast v j))
+  pub equivocators : (length equivocations ≡ WORDS) × ((j : ℕ) → has equivocations j ≡ equivocated (cast v j))
   pub history : Written v entries count

@@ -4,6 +4,7 @@ use mathlib.Core.Path.{_≡_, refl, sym, ap, subst, _∙_}
 use Prim.Native.Nat.{ℕ, _+_, _≤_}
 use native.Mathlib.Omega.{arith}
 use lib.ListN.{length}
+use Rattle.sizes.specs.Sizes.{BLOCKS}
 use Rattle.blocks.specs.declared.BlockTable.{BlockTable}
 use Rattle.context.specs.declared.Phase.{Phase}
 use Rattle.context.specs.declared.Phase.the-variants.{Prevote, Precommit}
@@ -113,7 +114,7 @@ module _ (f : Frame) (h : Held) where
         ∙ counted-tried phase fs
         ∙ by-kind m phase fs b
 
-    pub block-room : f .table .count ≤ 256
+    pub block-room : f .table .count ≤ BLOCKS
     block-room = k .table .few
 
     pub block-done : (m : Mark) (fs : List ℕ) → kind.Block ≡ kind-of m → (t : BlockTable) (x : Turn)

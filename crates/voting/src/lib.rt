@@ -17,7 +17,11 @@ use marks::End;
 use marks::Mark;
 use marks::Record;
 use marks::Turn;
+use sizes::BLOCKS;
 use sizes::HISTORY;
+use sizes::VOTERS;
+use sizes::VOTES;
+use sizes::WORDS;
 use tracker::Pair;
 
 // What a mark is in this turn.
@@ -84,47 +88,47 @@ fn kind_of(mark: Mark) -> Kind
 
 // A record in the third turn.
 fn take<'a>(
-    voters: &'a [u32; 64],
-    weights: &'a [u64; 64],
+    voters: &'a [u32; VOTERS],
+    weights: &'a [u64; VOTERS],
     size: usize,
     total: u64,
     threshold: u64,
     number: u64,
-    ids: &mut [u32; 256],
-    heights: &mut [u32; 256],
-    parents: &mut [u8; 256],
+    ids: &mut [u32; BLOCKS],
+    numbers: &mut [u32; BLOCKS],
+    parents: &mut [u8; BLOCKS],
     blocks: usize,
     base: u8,
-    used: &mut [bool; 256],
-    above: &mut [u8; 256],
-    rows: &mut [[u64; 2]; 256],
-    order: &mut [u8; 256],
-    heads: &mut [u8; 256],
-    times: &mut [u8; 128],
-    places: &mut [u8; 128],
-    signatures: &mut [u64; 128],
-    targets: &mut [u32; 128],
-    numbers: &mut [u32; 128],
-    seconds: &mut [u64; 128],
+    used: &mut [bool; BLOCKS],
+    above: &mut [u8; BLOCKS],
+    rows: &mut [[u64; WORDS]; BLOCKS],
+    order: &mut [u8; BLOCKS],
+    heads: &mut [u8; BLOCKS],
+    counts: &mut [u8; VOTES],
+    first_block: &mut [u8; VOTES],
+    first_signature: &mut [u64; VOTES],
+    second_target: &mut [u32; VOTES],
+    second_number: &mut [u32; VOTES],
+    second_signature: &mut [u64; VOTES],
     entries: &mut [u16; HISTORY],
     standing: Standing,
     mark: Mark,
     fields: &[u8],
 ) -> Took
-    requires { ⌜ Kept (frame-at given voters weights size total threshold number ids heights parents blocks base)
-        (held-at given used above rows order heads times places signatures targets numbers seconds entries standing)
+    requires { ⌜ Kept (frame-at given voters weights size total threshold number ids numbers parents blocks base)
+        (held-at given used above rows order heads counts «first_block» «first_signature» «second_target» «second_number» «second_signature» entries standing)
         × (length (now fields) ≡ marks.size mark) ⌝ }
     ensures { λ r. ⌜ _≡_ {A = Tried Voting} (record {
-      state = both (frame-at after voters weights size total threshold number ids heights parents (r .blocks) base)
-          (held-at after used above rows order heads times places signatures targets numbers seconds entries (r .standing));
+      state = both (frame-at after voters weights size total threshold number ids numbers parents (r .blocks) base)
+          (held-at after used above rows order heads counts «first_block» «first_signature» «second_target» «second_number» «second_signature» entries (r .standing));
       turn = r .turn;
     })
-        (tried voted (both (frame-at before voters weights size total threshold number ids heights parents blocks base)
-        (held-at before used above rows order heads times places signatures targets numbers seconds entries standing)) mark (now (fields .entry))) ⌝ }
+        (tried voted (both (frame-at before voters weights size total threshold number ids numbers parents blocks base)
+        (held-at before used above rows order heads counts «first_block» «first_signature» «second_target» «second_number» «second_signature» entries standing)) mark (now (fields .entry))) ⌝ }
 {
     match kind_of(mark) {
         Kind::Block => {
-            let took = growing::add(ids, heights, parents, blocks, fields);
+            let took = growing::add(ids, numbers, parents, blocks, fields);
             let turn = took.turn;
             Took {
                 turn,
@@ -143,7 +147,7 @@ fn take<'a>(
                 threshold,
                 number,
                 ids,
-                heights,
+                numbers,
                 parents,
                 blocks,
                 base,
@@ -152,12 +156,12 @@ fn take<'a>(
                 rows,
                 order,
                 heads,
-                times,
-                places,
-                signatures,
-                targets,
-                numbers,
-                seconds,
+                counts,
+                first_block,
+                first_signature,
+                second_target,
+                second_number,
+                second_signature,
                 entries,
                 standing,
                 phase,
@@ -182,42 +186,42 @@ fn take<'a>(
 
 // The records of some bytes.
 pub fn run<'a>(
-    voters: &'a [u32; 64],
-    weights: &'a [u64; 64],
+    voters: &'a [u32; VOTERS],
+    weights: &'a [u64; VOTERS],
     size: usize,
     total: u64,
     threshold: u64,
     number: u64,
-    ids: &mut [u32; 256],
-    heights: &mut [u32; 256],
-    parents: &mut [u8; 256],
+    ids: &mut [u32; BLOCKS],
+    numbers: &mut [u32; BLOCKS],
+    parents: &mut [u8; BLOCKS],
     blocks: usize,
     base: u8,
-    used: &mut [bool; 256],
-    above: &mut [u8; 256],
-    rows: &mut [[u64; 2]; 256],
-    order: &mut [u8; 256],
-    heads: &mut [u8; 256],
-    times: &mut [u8; 128],
-    places: &mut [u8; 128],
-    signatures: &mut [u64; 128],
-    targets: &mut [u32; 128],
-    numbers: &mut [u32; 128],
-    seconds: &mut [u64; 128],
+    used: &mut [bool; BLOCKS],
+    above: &mut [u8; BLOCKS],
+    rows: &mut [[u64; WORDS]; BLOCKS],
+    order: &mut [u8; BLOCKS],
+    heads: &mut [u8; BLOCKS],
+    counts: &mut [u8; VOTES],
+    first_block: &mut [u8; VOTES],
+    first_signature: &mut [u64; VOTES],
+    second_target: &mut [u32; VOTES],
+    second_number: &mut [u32; VOTES],
+    second_signature: &mut [u64; VOTES],
     entries: &mut [u16; HISTORY],
     standing: Standing,
     bytes: &[u8],
 ) -> Ran
-    requires { ⌜ Kept (frame-at given voters weights size total threshold number ids heights parents blocks base)
-        (held-at given used above rows order heads times places signatures targets numbers seconds entries standing) ⌝ }
-    ensures { λ r. ⌜ ended (both (frame-at after voters weights size total threshold number ids heights parents (r .blocks) base)
-        (held-at after used above rows order heads times places signatures targets numbers seconds entries (r .standing)))
+    requires { ⌜ Kept (frame-at given voters weights size total threshold number ids numbers parents blocks base)
+        (held-at given used above rows order heads counts «first_block» «first_signature» «second_target» «second_number» «second_signature» entries standing) ⌝ }
+    ensures { λ r. ⌜ ended (both (frame-at after voters weights size total threshold number ids numbers parents (r .blocks) base)
+        (held-at after used above rows order heads counts «first_block» «first_signature» «second_target» «second_number» «second_signature» entries (r .standing)))
         (r .count) (drop (r .at) (now (bytes .entry))) (r .end)
-        ≡ ran voted (both (frame-at before voters weights size total threshold number ids heights parents blocks base)
-        (held-at before used above rows order heads times places signatures targets numbers seconds entries standing)) (now (bytes .entry)) ⌝ }
+        ≡ ran voted (both (frame-at before voters weights size total threshold number ids numbers parents blocks base)
+        (held-at before used above rows order heads counts «first_block» «first_signature» «second_target» «second_number» «second_signature» entries standing)) (now (bytes .entry)) ⌝ }
     ensures { λ r. ⌜ (r .count ≤ r .at) × (r .at ≤ length (now (bytes .entry))) ⌝ }
-    ensures { λ r. ⌜ Kept (frame-at after voters weights size total threshold number ids heights parents (r .blocks) base)
-        (held-at after used above rows order heads times places signatures targets numbers seconds entries (r .standing)) ⌝ }
+    ensures { λ r. ⌜ Kept (frame-at after voters weights size total threshold number ids numbers parents (r .blocks) base)
+        (held-at after used above rows order heads counts «first_block» «first_signature» «second_target» «second_number» «second_signature» entries (r .standing)) ⌝ }
 {
     let mut grown = blocks;
     let mut standing = standing;
@@ -243,7 +247,7 @@ pub fn run<'a>(
             threshold,
             number,
             ids,
-            heights,
+            numbers,
             parents,
             grown,
             base,
@@ -252,12 +256,12 @@ pub fn run<'a>(
             rows,
             order,
             heads,
-            times,
-            places,
-            signatures,
-            targets,
-            numbers,
-            seconds,
+            counts,
+            first_block,
+            first_signature,
+            second_target,
+            second_number,
+            second_signature,
             entries,
             standing,
             mark,

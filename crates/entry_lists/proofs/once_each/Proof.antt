@@ -74,11 +74,11 @@ loop-less c = search needs
 -- src/lib.rt:38:5
 loop-again : tie.Need-loop-again Inv-loop μ-loop
 loop-again c = (
-      omega (arith, c .before .before .before .before .loop-test .taken),
-      struck-more _ _ _ _ _ _ (c .before .before .before .before .before .loop .inv .1) (c .before .before .wide .ensures),
-      all-more _ _ (c .before .before .before .before .before .loop .inv .2) (fresh-is _ _ _ _ _ (c .before .before .before .before .before .loop .inv .1) (c .before .before .wide .ensures) ∙ not-false _ (c .if2 .left)),
-      simp length-set (c .before .before .before .before .before .loop .inv .3),
-    )
+  omega (arith, c .before .before .before .before .loop-test .taken),
+  struck-more _ _ _ _ _ _ (c .before .before .before .before .before .loop .inv .1) (c .before .before .wide .ensures),
+  all-more _ _ (c .before .before .before .before .before .loop .inv .2) (fresh-is _ _ _ _ _ (c .before .before .before .before .before .loop .inv .1) (c .before .before .wide .ensures) ∙ not-false _ (c .if2 .left)),
+  simp length-set (c .before .before .before .before .before .loop .inv .3),
+)
 
 -- src/lib.rt:48:5
 none-left-requires : tie.Need-none-left-requires Inv-loop μ-loop

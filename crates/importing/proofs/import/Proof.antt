@@ -32,20 +32,20 @@ index-requires : tie.Need-index-requires
 index-requires c κs = first-place _ _ (c .before .before .before .before .before .before .before .before .before .before .before .before .before .before .pre) _ _ _ _ _ (sym (c .before .before .before .before .before .before .judge .ensures) ∙ c .before .verdict2 .given .1)
 
 -- src/lib.rt:173:13
-element-write-times : tie.Need-element-write-times
-element-write-times c = search needs
+element-write-counts : tie.Need-element-write-counts
+element-write-counts c = search needs
 
 -- src/lib.rt:174:13
-element-write-places : tie.Need-element-write-places
-element-write-places c = search needs
+element-write-first-block : tie.Need-element-write-first-block
+element-write-first-block c = search needs
 
 -- src/lib.rt:175:13
-mul-signatures : tie.Need-mul-signatures
-mul-signatures c = search needs
+mul-first-signature : tie.Need-mul-first-signature
+mul-first-signature c = search needs
 
 -- src/lib.rt:175:13
-element-write-signatures : tie.Need-element-write-signatures
-element-write-signatures c = search needs
+element-write-first-signature : tie.Need-element-write-first-signature
+element-write-first-signature c = search needs
 
 entry-requires : tie.Need-entry-requires
 entry-requires c κs = (c .before .index .ensures .1, omega arith)
@@ -82,32 +82,32 @@ index-requires-2 : tie.Need-index-requires-2
 index-requires-2 c κs = second-place _ _ (c .before .before .before .before .before .before .before .before .before .before .before .before .before .before .pre) _ _ _ _ _ (sym (c .before .before .before .before .before .before .judge .ensures) ∙ c .before .verdict3 .given .1)
 
 -- src/lib.rt:226:13
-element-write-times-2 : tie.Need-element-write-times-2
-element-write-times-2 c = search needs
+element-write-counts-2 : tie.Need-element-write-counts-2
+element-write-counts-2 c = search needs
 
 -- src/lib.rt:227:13
-mul-targets : tie.Need-mul-targets
-mul-targets c = search needs
+mul-second-target : tie.Need-mul-second-target
+mul-second-target c = search needs
 
 -- src/lib.rt:227:13
-element-write-targets : tie.Need-element-write-targets
-element-write-targets c = search needs
+element-write-second-target : tie.Need-element-write-second-target
+element-write-second-target c = search needs
 
 -- src/lib.rt:228:13
-mul-numbers : tie.Need-mul-numbers
-mul-numbers c = search needs
+mul-second-number : tie.Need-mul-second-number
+mul-second-number c = search needs
 
 -- src/lib.rt:228:13
-element-write-numbers : tie.Need-element-write-numbers
-element-write-numbers c = search needs
+element-write-second-number : tie.Need-element-write-second-number
+element-write-second-number c = search needs
 
 -- src/lib.rt:229:13
-mul-seconds : tie.Need-mul-seconds
-mul-seconds c = search needs
+mul-second-signature : tie.Need-mul-second-signature
+mul-second-signature c = search needs
 
 -- src/lib.rt:229:13
-element-write-seconds : tie.Need-element-write-seconds
-element-write-seconds c = search needs
+element-write-second-signature : tie.Need-element-write-second-signature
+element-write-second-signature c = search needs
 
 entry-requires-2 : tie.Need-entry-requires-2
 entry-requires-2 c κs = (c .index2 .ensures .1, omega arith)
@@ -152,10 +152,10 @@ import-spec =
     enum-known-verdict
     enum-known-verdict-2
     index-requires
-    element-write-times
-    element-write-places
-    mul-signatures
-    element-write-signatures
+    element-write-counts
+    element-write-first-block
+    mul-first-signature
+    element-write-first-signature
     entry-requires
     mul-entries
     element-write-entries
@@ -165,13 +165,13 @@ import-spec =
     add-t63
     enum-known-verdict-3
     index-requires-2
-    element-write-times-2
-    mul-targets
-    element-write-targets
-    mul-numbers
-    element-write-numbers
-    mul-seconds
-    element-write-seconds
+    element-write-counts-2
+    mul-second-target
+    element-write-second-target
+    mul-second-number
+    element-write-second-number
+    mul-second-signature
+    element-write-second-signature
     entry-requires-2
     mul-entries-2
     element-write-entries-2

@@ -13,11 +13,11 @@ use Rattle.listing.proofs.entries_of.Statement.{statement}
 use Rattle.listing.proofs.entries_of.Tie as tie
 
 abbrev Inv-loop : tie.InvT-loop
-Inv-loop times places parents size wanted phase entries₀ n₀ place₀ entries n place =
-    (place ≤ size) × (record { entries = entries; count = n } ≡ entered (keep (wants times places parents wanted) (by-voter phase place)))
+Inv-loop counts first-block parents size wanted phase entries₀ n₀ place₀ entries n place =
+    (place ≤ size) × (record { entries = entries; count = n } ≡ entered (keep (wants counts first-block parents wanted) (by-voter phase place)))
 
 abbrev μ-loop : tie.MeasureT-loop
-μ-loop times places parents size wanted phase entries₀ n₀ place₀ entries n place = size - place
+μ-loop counts first-block parents size wanted phase entries₀ n₀ place₀ entries n place = size - place
 
 phase-in-requires : tie.Need-phase-in-requires Inv-loop μ-loop
 phase-in-requires c κs = search needs

@@ -11,11 +11,11 @@ use Rattle.listing.proofs.write.Statement.{statement}
 use Rattle.listing.proofs.write.Tie as tie
 
 abbrev Inv-loop : tie.InvT-loop
-Inv-loop entries count times places signatures targets numbers seconds voters ids heights out₀ used₀ k₀ out used k =
-    (k ≤ count) × Filled (record-of (record { times = times; places = places; signatures = signatures; targets = targets; numbers = numbers; seconds = seconds }) voters ids heights) entries out₀ k out used
+Inv-loop entries count counts first-block first-signature second-target second-number second-signature voters ids numbers out₀ used₀ k₀ out used k =
+    (k ≤ count) × Filled (record-of (record { counts = counts; «first_block» = first-block; «first_signature» = first-signature; «second_target» = second-target; «second_number» = second-number; «second_signature» = second-signature }) voters ids numbers) entries out₀ k out used
 
 abbrev μ-loop : tie.MeasureT-loop
-μ-loop entries count times places signatures targets numbers seconds voters ids heights out₀ used₀ k₀ out used k =
+μ-loop entries count counts first-block first-signature second-target second-number second-signature voters ids numbers out₀ used₀ k₀ out used k =
     count - k
 
 mul-if1 : tie.Need-mul-if1 Inv-loop μ-loop

@@ -15,14 +15,14 @@ use Rattle.two_views.proofs.differs.Reads as differs-reads
 use Rattle.weights.proofs.VoteWeight.add.Reads as add-reads
 
 abbrev Inv-loop : tie.InvT-loop
-Inv-loop times places others theirs weights size sum₀ voter₀ sum voter = (voter ≤ size) × (sum ≤ most) × (sum ≡ differing times places others theirs weights voter)
+Inv-loop counts first-block others theirs weights size sum₀ voter₀ sum voter = (voter ≤ size) × (sum ≤ most) × (sum ≡ differing counts first-block others theirs weights voter)
 
 abbrev μ-loop : tie.MeasureT-loop
-μ-loop times places others theirs weights size sum₀ voter₀ sum voter = size - voter
+μ-loop counts first-block others theirs weights size sum₀ voter₀ sum voter = size - voter
 
 -- src/lib.rt:50:5
 loop-holds : tie.Need-loop-holds Inv-loop μ-loop
-loop-holds c = (omega arith, omega arith, differing-none (c .args .times .now) (c .args .places .now) (c .args .others .now) (c .args .theirs .now) (c .args .weights .now))
+loop-holds c = (omega arith, omega arith, differing-none (c .args .counts .now) (c .args .first-block .now) (c .args .others .now) (c .args .theirs .now) (c .args .weights .now))
 
 index-requires : tie.Need-index-requires Inv-loop μ-loop
 index-requires c κs = omega (arith, c .loop-test .taken, c .before .before .pre)

@@ -13,10 +13,10 @@ use Rattle.vote_shape.proofs.pairs.Lts as lts
 use Rattle.vote_shape.proofs.is_paired.Reads as is-paired-reads
 
 abbrev Inv-loop : tie.InvT-loop
-Inv-loop times marks₀ e₀ marks e = (e ≤ HISTORY) × Marked HISTORY marks (paired times) e
+Inv-loop counts marks₀ e₀ marks e = (e ≤ HISTORY) × Marked HISTORY marks (paired counts) e
 
 abbrev μ-loop : tie.MeasureT-loop
-μ-loop times marks₀ e₀ marks e = HISTORY - e
+μ-loop counts marks₀ e₀ marks e = HISTORY - e
 
 -- src/lib.rt:284:5
 loop-holds : tie.Need-loop-holds Inv-loop μ-loop

@@ -1,3 +1,4 @@
+use Rattle.sizes.specs.Sizes.{VOTES}
 use Rattle.lent.specs.Moment.{plain}
 use Rattle.tracker.specs.Votes.{votes-at}
 use borrow.Author.Needs.{needs}
@@ -21,10 +22,10 @@ use Rattle.vote_shape.proofs.is_first_clear.Reads as is-first-clear-rea
 use Rattle.vote_shape.proofs.is_second_clear.Reads as is-second-clear-reads
 
 abbrev Inv-loop : tie.InvT-loop
-Inv-loop size times places signatures targets numbers seconds j₀ j = (j ≤ 128) × (all j (tidy-at size (votes-at plain times places signatures targets numbers seconds)) ≡ true)
+Inv-loop size counts first-block first-signature second-target second-number second-signature j₀ j = (j ≤ VOTES) × (all j (tidy-at size (votes-at plain counts first-block first-signature second-target second-number second-signature)) ≡ true)
 
 abbrev μ-loop : tie.MeasureT-loop
-μ-loop size times places signatures targets numbers seconds j₀ j = 128 - j
+μ-loop size counts first-block first-signature second-target second-number second-signature j₀ j = VOTES - j
 
 -- src/lib.rt:58:5
 loop-holds : tie.Need-loop-holds Inv-loop μ-loop

@@ -20,17 +20,17 @@ use Rattle.marks.proofs.read.Reads as read-reads
 use Rattle.voting.proofs.take.Reads as take-reads
 
 abbrev Inv-loop : tie.InvT-loop
-Inv-loop voters weights size total threshold number ids₀ heights₀ parents₀ blocks base used₀ above₀ rows₀ order₀ heads₀ times₀ places₀ signatures₀ targets₀ numbers₀ seconds₀ entries₀ bytes grown₀ standing₀ taken₀ at₀ ids heights parents used above rows order heads times places signatures targets numbers seconds entries grown standing taken at =
+Inv-loop voters weights size total threshold number ids₀ numbers₀ parents₀ blocks base used₀ above₀ rows₀ order₀ heads₀ counts₀ first-block₀ first-signature₀ second-target₀ second-number₀ second-signature₀ entries₀ bytes grown₀ standing₀ taken₀ at₀ ids numbers parents used above rows order heads counts first-block first-signature second-target second-number second-signature entries grown standing taken at =
     Voted-so-far
-    (frame-at plain voters weights size total threshold number ids₀ heights₀ parents₀ blocks base)
-    (held-at plain used₀ above₀ rows₀ order₀ heads₀ times₀ places₀ signatures₀ targets₀ numbers₀ seconds₀ entries₀ standing₀)
+    (frame-at plain voters weights size total threshold number ids₀ numbers₀ parents₀ blocks base)
+    (held-at plain used₀ above₀ rows₀ order₀ heads₀ counts₀ first-block₀ first-signature₀ second-target₀ second-number₀ second-signature₀ entries₀ standing₀)
     bytes
-    (frame-at plain voters weights size total threshold number ids heights parents grown base)
-    (held-at plain used above rows order heads times places signatures targets numbers seconds entries standing)
+    (frame-at plain voters weights size total threshold number ids numbers parents grown base)
+    (held-at plain used above rows order heads counts first-block first-signature second-target second-number second-signature entries standing)
     taken at
 
 abbrev μ-loop : tie.MeasureT-loop
-μ-loop voters weights size total threshold number ids₀ heights₀ parents₀ blocks base used₀ above₀ rows₀ order₀ heads₀ times₀ places₀ signatures₀ targets₀ numbers₀ seconds₀ entries₀ bytes grown₀ standing₀ taken₀ at₀ ids heights parents used above rows order heads times places signatures targets numbers seconds entries grown standing taken at =
+μ-loop voters weights size total threshold number ids₀ numbers₀ parents₀ blocks base used₀ above₀ rows₀ order₀ heads₀ counts₀ first-block₀ first-signature₀ second-target₀ second-number₀ second-signature₀ entries₀ bytes grown₀ standing₀ taken₀ at₀ ids numbers parents used above rows order heads counts first-block first-signature second-target second-number second-signature entries grown standing taken at =
     length bytes - at
 
 -- src/lib.rt:287:5
