@@ -5,6 +5,7 @@ use mathlib.Core.Path.{_≡_, refl, sym, ap, subst, _∙_}
 use Prim.Native.Nat.{ℕ, zero, suc, pred, _≤_, _<_}
 use native.Mathlib.Omega.{arith}
 use lib.Dec.{T}
+use Rattle.sizes.specs.Sizes.{BLOCKS}
 use Rattle.loops.specs.Listing.{times}
 use Rattle.loops.proofs.Listings.{times-here, times-more}
 use Rattle.grandpa.specs.Tree.{Tabled, below}
@@ -72,7 +73,7 @@ module _ (up up′ ids ids′ : ℕ → ℕ) (falls : (k : ℕ) → up k ≤ pre
   unfolding nearest
   nearest-more used x h = until-more used (up x) (up x) (omega (arith, falls x)) ∙ ap (λ (y : ℕ). until up′ used y y) (same-up x h)
 
-module _ (parents ids parents′ ids′ : List ℕ) (base count count′ : ℕ) (more : count ≤ count′) (small : count′ ≤ 256)
+module _ (parents ids parents′ ids′ : List ℕ) (base count count′ : ℕ) (more : count ≤ count′) (small : count′ ≤ BLOCKS)
     (same-up : (k : ℕ) → k < count → col parents k ≡ col parents′ k) (same-ids : (k : ℕ) → k < count → col ids k ≡ col ids′ k)
     (falls : Falls parents′) where
   pub sound-more : (g : Columns) → Sound parents ids base count g → Sound parents′ ids′ base count′ g
@@ -89,16 +90,13 @@ module _ (parents ids parents′ ids′ : List ℕ) (base count count′ : ℕ) 
             (s .nodes .tabled x u);
         listed-fits = s .listed-fits;
         tips-fit = s .tips-fit;
-        used-size = s .used-size;
-        above-size = s .above-size;
-        rows-size = s .rows-size;
-        row-size = s .row-size;
+        sized = s .sized;
         order-clear = s .order-clear;
         heads-clear = s .heads-clear;
       }
 
 pub extended-faithful : (k : Setting) → Faithful k → (parents ids numbers : List ℕ) (count : ℕ)
-    → Tabled (table (extended k parents ids numbers count)) → count ≤ 256
+    → Tabled (table (extended k parents ids numbers count)) → count ≤ BLOCKS
     → Grown (table k) (table (extended k parents ids numbers count)) → ((x : ℕ) → x < k .count → col (k .ids) x ≡ col ids x)
     → Faithful (extended k parents ids numbers count)
 extended-faithful k f parents ids numbers count tabled small grown same-ids =
@@ -110,6 +108,7 @@ extended-faithful k f parents ids numbers count tabled small grown same-ids =
       shape =
           shape-more (col (k .parents)) (col parents) (col (k .ids)) (col ids) (f .tabled .falls) (k .base) (k .count) count (grown .more) (grown .same-up) same-ids
           (k .cast) _ (f .shape);
+      only = f .only;
       no-voter = f .no-voter;
       two-words = f .two-words;
       doubled = f .doubled;

@@ -6,6 +6,7 @@ use mathlib.Core.Path.{sym, subst}
 use Prim.Native.Nat.{ℕ, _≤_, _<_}
 use native.Mathlib.Omega.{arith}
 use lib.Dec.{T, leb, not-T}
+use Rattle.sizes.specs.Sizes.{BLOCKS}
 use Rattle.loops.proofs.Tests.{by-test, decT}
 use Rattle.grandpa.specs.Tree.{below}
 use Rattle.grandpa.specs.Vote.{Vote}
@@ -36,7 +37,7 @@ seated-in parents base count Nothing h = tt
 seated-in parents base count (At b) h = h .1
 
 module _ (s : Scene) (ids : List ℕ) (count : ℕ) (cast : ℕ → Vote) (falls : Falls (s .parents))
-    (shape : Shape (col (s .parents)) (col ids) (s .base) count cast (view (s .graph))) (small : count ≤ 256) where
+    (shape : Shape (col (s .parents)) (col ids) (s .base) count cast (view (s .graph))) (small : count ≤ BLOCKS) where
   abbrev up : ℕ → ℕ
   up = col (s .parents)
 

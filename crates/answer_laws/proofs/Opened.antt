@@ -7,6 +7,7 @@ use Prim.Native.Nat.{ℕ, _≤_, _<_}
 use native.Mathlib.Omega.{arith}
 use lib.Dec.{T}
 use lib.ListN.{length, replicate, getD-replicate}
+use Rattle.sizes.specs.Sizes.{WORDS, BLOCKS}
 use Rattle.loops.specs.Listing.{times, front}
 use Rattle.loops.proofs.Listings.{times-none}
 use Rattle.loops.proofs.Sums.{weigh-none}
@@ -22,6 +23,7 @@ use Rattle.nodes.specs.Nodes.{col, flag, row}
 use Rattle.nodes.specs.Columns.{view}
 use Rattle.vote_insert.specs.Insert.{opened}
 use Rattle.vote_insert.proofs.Opens.{sound-opened}
+use Rattle.answers.specs.Update.{no-heard}
 use Rattle.answer_laws.specs.Faithful.{Setting, table, voters, Faithful}
 
 module _ (set : VoterSet) (parents ids numbers : List ℕ) (count base : ℕ) where
@@ -35,18 +37,18 @@ module _ (set : VoterSet) (parents ids numbers : List ℕ) (count base : ℕ) wh
         count = count;
         base = base;
         graph = opened base;
-        equivocations = replicate 2 0;
-        heard = record { prevote = 0; precommit = 0 };
+        equivocations = replicate WORDS 0;
+        heard = no-heard;
         cast = λ j. silent;
       }
 
-  module _ (good : Good set) (fits : set .total ≤ most) (tabled : Tabled (table opening)) (in-table : base < count) (small : count ≤ 256) where
+  module _ (good : Good set) (fits : set .total ≤ most) (tabled : Tabled (table opening)) (in-table : base < count) (small : count ≤ BLOCKS) where
     nodes : Nodes (col parents) (col ids) base count (view (opened base) .used) (view (opened base) .order) (view (opened base) .heads)
     nodes = sound-opened parents ids (tabled .falls) base count in-table small .nodes
 
-    no-bit : (x : ℕ) → x < 256 → row (opened base .rows) x ≡ replicate 2 0
+    no-bit : (x : ℕ) → x < BLOCKS → row (opened base .rows) x ≡ replicate WORDS 0
     unfolding opened
-    no-bit x h = getD-replicate 256 x (0 ∷ 0 ∷ []) [] h
+    no-bit x h = getD-replicate BLOCKS x (replicate WORDS 0) [] h
 
     -- no other node is listed
     alone : (x : ℕ) → T (flag (opened base .used) x) → x ≢ base → ⊥
@@ -62,9 +64,9 @@ module _ (set : VoterSet) (parents ids numbers : List ℕ) (count base : ℕ) wh
           rows =
               record {
                 words = λ x u. ap length (no-bit x (omega (arith, nodes .tabled x u)));
-                told = λ x u j. ap (λ (b : List ℕ). has b j) (no-bit x (omega (arith, nodes .tabled x u))) ∙ has-none 2 j;
+                told = λ x u j. ap (λ (b : List ℕ). has b j) (no-bit x (omega (arith, nodes .tabled x u))) ∙ has-none WORDS j;
               };
-          voted = record { target-used = λ j x t. absurd t; used-only = λ x u n. absurd (alone x u n) };
+          voted = record { target-used = λ j x t. absurd t };
         }
 
     pub opened-faithful : Faithful opening
@@ -75,9 +77,10 @@ module _ (set : VoterSet) (parents ids numbers : List ℕ) (count base : ℕ) wh
           tabled = tabled;
           small = small;
           shape = shape;
+          only = λ x u n. absurd (alone x u n);
           no-voter = λ phase p h. refl;
           two-words = refl;
-          doubled = λ j. has-none 2 j;
+          doubled = λ j. has-none WORDS j;
           prevotes-heard = sym (weigh-none (set .count) (voters opening .weight) (λ p. false) (λ i h s. s));
           precommits-heard = sym (weigh-none (set .count) (voters opening .weight) (λ p. false) (λ i h s. s));
         }

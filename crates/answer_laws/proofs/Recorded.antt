@@ -8,6 +8,7 @@ use native.Mathlib.Omega.{arith}
 use lib.Dec.{T, eqb}
 use lib.ListN.{getD}
 use borrow.Author.Tests.{eq-eqb, ne-eqb}
+use Rattle.sizes.specs.Sizes.{VOTES}
 use Rattle.loops.proofs.Tests.{or-false, in-left, by-test}
 use Rattle.loops.proofs.Sums.{weigh-cong, weigh-put}
 use Rattle.grandpa.specs.Tree.{below}
@@ -18,9 +19,10 @@ use Rattle.bitfield.proofs.Sets.{has-put, length-put}
 use Rattle.context.specs.declared.Phase.{Phase}
 use Rattle.context.specs.declared.Phase.the-variants.{Prevote, Precommit}
 use Rattle.context.specs.Votes.{offset, bit}
+use Rattle.context.proofs.Places.{bit-one, bit-few}
 use Rattle.graph.specs.Graph.{Graph, add-node, mark, insert}
-use Rattle.graph.specs.Shape.{Shape, Targets, with-vote}
-use Rattle.graph.proofs.Inserts.{insert-keeps, shape-same}
+use Rattle.graph.specs.Shape.{Shape, Used-only, Targets, with-vote}
+use Rattle.graph.proofs.Inserts.{insert-keeps, shape-same, only-inserted, only-same}
 use Rattle.nodes.specs.Nodes.{col, flag}
 use Rattle.nodes.specs.Columns.{Sound, view}
 use Rattle.vote_insert.proofs.Keeps.{view-insert}
@@ -45,13 +47,9 @@ module _ (cast : ℕ → Vote) (j : ℕ) (v : Vote) where
       go (yes e) = subst (P i) (sym (changed-here i e)) (subst (λ (x : ℕ). P x v) (sym e) h)
       go (no n) = subst (P i) (sym (changed-other i n)) (o i n)
 
-offset-lt : (phase : Phase) → offset phase < 2
-offset-lt Prevote = omega arith
-offset-lt Precommit = omega arith
-
 -- bits of other places and other phases are others
 other-place : (a b : Phase) (p q : ℕ) → q ≢ p → bit a q ≢ bit b p
-other-place a b p q n e = n (omega (arith, offset-lt a, offset-lt b))
+other-place a b p q n e = n (bit-one a b q p e .1)
 
 later-same : (x : Vote) → Later x x
 later-same silent = any-yet silent
@@ -62,12 +60,12 @@ module _ (k : Setting) (f : Faithful k) (phase : Phase) (p : ℕ) (in-set : p < 
   abbrev pub j : ℕ
   j = bit phase p
 
-  few : j < 128
-  few = omega (arith, f .good .few, offset-lt phase)
+  few : j < VOTES
+  few = bit-few phase p (omega (arith, f .good .few))
 
   -- the votes of another phase are as before
   pub other-phase : (v : Vote) (other : Phase) → offset other ≢ offset phase → (q : ℕ) → changed (k .cast) j v (bit other q) ≡ votes k other q
-  other-phase v other n q = changed-other (k .cast) j v (bit other q) (λ e. n (omega (arith, offset-lt other, offset-lt phase)))
+  other-phase v other n q = changed-other (k .cast) j v (bit other q) (λ e. n (ap (λ (x : Phase). offset x) (bit-one other phase q p e .0)))
 
   heard-other : (v : Vote) (other : Phase) → offset other ≢ offset phase
       → heard (voters k) (λ q. changed (k .cast) j v (bit other q)) ≡ heard (voters k) (votes k other)
@@ -140,6 +138,9 @@ module _ (k : Setting) (f : Faithful k) (phase : Phase) (p : ℕ) (in-set : p < 
             subst (Shape (col (k .parents)) (col (k .ids)) (k .base) (k .count) (with-vote (k .cast) (bit phase p) t))
             (sym (viewed k f phase p in-set t quiet sound in-base in-table apart))
             (insert-keeps (col (k .parents)) (col (k .ids)) (f .tabled .falls) (k .base) (k .count) (k .cast) t in-base in-table (view (k .graph)) (f .shape) (bit phase p) (few k f phase p in-set) quiet apart);
+        only =
+            subst (λ (g : Graph). Used-only (k .base) (with-vote (k .cast) (bit phase p) t) (g .used)) (sym (viewed k f phase p in-set t quiet sound in-base in-table apart))
+            (only-inserted (k .base) (k .cast) (view (k .graph)) (f .only) (col (k .parents)) (col (k .ids)) t (bit phase p) quiet);
         no-voter = no-voter-changed k f phase p in-set (once t);
         two-words = f .two-words;
         doubled = first-doubled k f phase p in-set t quiet sound in-base in-table apart;
@@ -188,7 +189,8 @@ module _ (k : Setting) (f : Faithful k) (phase : Phase) (p : ℕ) (in-set : p < 
           small = f .small;
           shape =
               shape-same (col (k .parents)) (col (k .ids)) (k .base) (k .count) (k .cast) (with-second (k .cast) (bit phase p) t) (view (k .graph))
-              (λ i x. lands-same x i) (λ i x. to x i) (λ i x. fro x i) (f .shape);
+              (λ i x. lands-same x i) (λ i x. fro x i) (f .shape);
+          only = only-same (k .base) (k .cast) (view (k .graph)) (f .only) (with-second (k .cast) (bit phase p) t) (λ i x. to x i);
           no-voter = no-voter-changed k f phase p in-set (twice t);
           two-words = length-put (k .equivocations) (bit phase p) ∙ f .two-words;
           doubled = second-doubled;

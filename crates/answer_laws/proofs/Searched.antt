@@ -3,7 +3,7 @@ use mathlib.Core.Bool.{Bool, not, _&&_, _||_}
 use mathlib.Core.Option.{Option, none, some}
 use mathlib.Core.Path.{_≡_, refl, sym, ap, subst, fun-ext, _∙_}
 use mathlib.Core.Logic.{_⊎_, inl, inr, ⊎-elim}
-use Prim.Native.Nat.{ℕ, zero, suc, _/_, _%_, _≤_, _<_}
+use Prim.Native.Nat.{ℕ, _≤_, _<_}
 use native.Mathlib.Decide.{ℕ-discrete}
 use native.Mathlib.Omega.{arith}
 use lib.Dec.{T, eqb, ltb, eqb→eq, eqb-refl, lt→ltb, T-not, not-T}
@@ -18,8 +18,11 @@ use Rattle.grandpa.specs.Possible.{possible-at}
 use Rattle.grandpa.specs.Answers.{First, Says, first-of, with-node, settled-at}
 use Rattle.grandpa.proofs.Trees.{below-le, child-below}
 use Rattle.grandpa.proofs.Searches.{first-says}
+use Rattle.layouts.specs.Layout.{index-place}
+use Rattle.context.specs.declared.Phase.{Phase}
 use Rattle.context.specs.declared.Phase.the-variants.{Prevote, Precommit}
-use Rattle.context.specs.Votes.{bit}
+use Rattle.context.specs.Votes.{bit, phase-at}
+use Rattle.context.proofs.Places.{bit-parts}
 use Rattle.graph.specs.Graph.{tally}
 use Rattle.graph.specs.Shape.{Targets}
 use Rattle.graph.proofs.Tallies.{lands-target, target-lands}
@@ -73,7 +76,7 @@ module _ (k : Setting) (f : Faithful k) where
 
   -- the first vote of a bit is one of a voter's in a phase
   of-voter : (j x : ℕ) → Targets (k .cast j) x → (c : ℕ) → T (below up c x) → T (noded (voters k) up (votes k Prevote) (votes k Precommit) c)
-  of-voter j x t c l = go (j % 2) refl (le-or-lt (k .set .count) (j / 2))
+  of-voter j x t c l = go (phase-at j) (bit-parts j) (le-or-lt (k .set .count) (index-place j))
     where
       lands-at : (i : ℕ) → i ≡ j → T (lands up c (k .cast i))
       lands-at i e = target-lands up c x (k .cast i) (subst (λ (n : ℕ). Targets (k .cast n) x) (sym e) t) l
@@ -81,16 +84,16 @@ module _ (k : Setting) (f : Faithful k) where
       not-silent : (v : Vote) → v ≡ silent → T (lands up c v) → ⊥
       not-silent v e h = subst (λ (y : Vote). T (lands up c y)) e h
 
-      shown : T (lands up c (votes k Prevote (j / 2)) || lands up c (votes k Precommit (j / 2))) → (k .set .count ≤ j / 2) ⊎ (j / 2 < k .set .count)
+      shown : T (lands up c (votes k Prevote (index-place j)) || lands up c (votes k Precommit (index-place j))) → (k .set .count ≤ index-place j) ⊎ (index-place j < k .set .count)
           → T (noded (voters k) up (votes k Prevote) (votes k Precommit) c)
       shown h (inl p) =
-          absurd (⊎-elim (not-silent _ (f .no-voter Prevote (j / 2) p)) (not-silent _ (f .no-voter Precommit (j / 2) p)) (either (lands up c (votes k Prevote (j / 2))) _ h))
-      shown h (inr p) = any-intro (λ i. lands up c (votes k Prevote i) || lands up c (votes k Precommit i)) (k .set .count) (j / 2) p h
+          absurd (⊎-elim (not-silent _ (f .no-voter Prevote (index-place j) p)) (not-silent _ (f .no-voter Precommit (index-place j) p)) (either (lands up c (votes k Prevote (index-place j))) _ h))
+      shown h (inr p) = any-intro (λ i. lands up c (votes k Prevote i) || lands up c (votes k Precommit i)) (k .set .count) (index-place j) p h
 
-      go : (d : ℕ) → j % 2 ≡ d → (k .set .count ≤ j / 2) ⊎ (j / 2 < k .set .count) → T (noded (voters k) up (votes k Prevote) (votes k Precommit) c)
-      go zero e o = shown (in-left (lands up c (votes k Prevote (j / 2))) (lands up c (votes k Precommit (j / 2))) (lands-at (bit Prevote (j / 2)) (omega arith))) o
-      go (suc zero) e o = shown (in-right (lands up c (votes k Prevote (j / 2))) (lands up c (votes k Precommit (j / 2))) (lands-at (bit Precommit (j / 2)) (omega arith))) o
-      go (suc (suc d)) e o = absurd (omega arith)
+      go : (phase : Phase) → bit phase (index-place j) ≡ j → (k .set .count ≤ index-place j) ⊎ (index-place j < k .set .count)
+          → T (noded (voters k) up (votes k Prevote) (votes k Precommit) c)
+      go Prevote e o = shown (in-left (lands up c (votes k Prevote (index-place j))) (lands up c (votes k Precommit (index-place j))) (lands-at (bit Prevote (index-place j)) e)) o
+      go Precommit e o = shown (in-right (lands up c (votes k Prevote (index-place j))) (lands up c (votes k Precommit (index-place j))) (lands-at (bit Precommit (index-place j)) e)) o
 
   -- and a voter's lies at a node
   at-node : (c : ℕ) → T (noded (voters k) up (votes k Prevote) (votes k Precommit) c) → (y : ℕ) × T (flag (k .graph .used) y) × T (below up c y)
@@ -126,7 +129,7 @@ module _ (k : Setting) (f : Faithful k) where
               (λ c y ch u l q.
               let under = child-below up (f .tabled .falls) g c ch in
               let in-table : c < k .count = omega (arith, below-le up (f .tabled .falls) c y l, f .shape .nodes .tabled y u) in
-              let j = f .shape .voted .used-only y u (λ z. omega (arith, below-le up (f .tabled .falls) (k .base) g (w .in-base), below-le up (f .tabled .falls) g c (under .0), under .1, below-le up (f .tabled .falls) c y l)) in
+              let j = f .only y u (λ z. omega (arith, below-le up (f .tabled .falls) (k .base) g (w .in-base), below-le up (f .tabled .falls) g c (under .0), under .1, below-le up (f .tabled .falls) c y l)) in
               T-not (asked-child g c) (all-at (λ c. not (asked-child g c)) (k .count) h c in-table)
               (both (child up g c) _ ch (both (with-node (voters k) (table k) (votes k Prevote) (votes k Precommit) c) _
               (both (ltb c (k .count)) _ (lt→ltb c (k .count) in-table) (of-voter (j .0) y (j .1) c l)) (subst T (possible-is k f c) q))))

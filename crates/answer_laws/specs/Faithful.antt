@@ -7,6 +7,7 @@ use mathlib.Core.Path.{_≡_}
 use Prim.Native.Nat.{ℕ, _≤_, _<_}
 use lib.Dec.{T}
 use lib.ListN.{getD, length}
+use Rattle.sizes.specs.Sizes.{WORDS, BLOCKS}
 use Rattle.weights.specs.Weights.{most}
 use Rattle.grandpa.specs.Tree.{Blocks, Tabled, below}
 use Rattle.grandpa.specs.Vote.{Vote, silent, Voters, heard, equivocated}
@@ -17,7 +18,7 @@ use Rattle.bitfield.specs.Bits.{has}
 use Rattle.context.specs.declared.Phase.{Phase}
 use Rattle.context.specs.declared.Phase.the-variants.{Prevote, Precommit}
 use Rattle.context.specs.Votes.{bit}
-use Rattle.graph.specs.Shape.{Shape}
+use Rattle.graph.specs.Shape.{Shape, Used-only}
 use Rattle.nodes.specs.declared.Found.{Found}
 use Rattle.nodes.specs.declared.Found.the-variants.{At, Nothing}
 use Rattle.nodes.specs.Nodes.{col, flag}
@@ -60,10 +61,11 @@ pub record Faithful (k : Setting) : Type 0 where
   pub good : Good (k .set)
   pub fits : k .set .total ≤ most
   pub tabled : Tabled (table k)
-  pub small : k .count ≤ 256
+  pub small : k .count ≤ BLOCKS
   pub shape : Shape (col (k .parents)) (col (k .ids)) (k .base) (k .count) (k .cast) (view (k .graph))
+  pub only : Used-only (k .base) (k .cast) (flag (k .graph .used))
   pub no-voter : (phase : Phase) (p : ℕ) → k .set .count ≤ p → votes k phase p ≡ silent
-  pub two-words : length (k .equivocations) ≡ 2
+  pub two-words : length (k .equivocations) ≡ WORDS
   pub doubled : (j : ℕ) → has (k .equivocations) j ≡ equivocated (k .cast j)
   pub prevotes-heard : k .heard .prevote ≡ heard (voters k) (votes k Prevote)
   pub precommits-heard : k .heard .precommit ≡ heard (voters k) (votes k Precommit)

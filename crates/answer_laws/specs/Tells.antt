@@ -21,6 +21,7 @@ use Rattle.nodes.specs.Columns.{Columns}
 use Rattle.vote_insert.specs.Insert.{inserted}
 use Rattle.answers.specs.declared.Answers.{Answers}
 use Rattle.answers.specs.declared.Heard.{Heard}
+use Rattle.answers.specs.Update.{heard-as}
 use Rattle.answer_laws.specs.Faithful.{Setting, table, voters, votes, All-within, stored}
 
 -- prevote weight T or more
@@ -77,8 +78,8 @@ extended k parents ids numbers count =
 
 -- a voter's weight is heard in a phase
 abbrev pub louder : Phase → ℕ → Heard → Heard
-louder Prevote w h = record { prevote = h .prevote + w; precommit = h .precommit }
-louder Precommit w h = record { prevote = h .prevote; precommit = h .precommit + w }
+louder Prevote w h = heard-as Prevote (h .prevote + w) h
+louder Precommit w h = heard-as Precommit (h .precommit + w) h
 
 -- the second vote of bit j, whose first was for t
 abbrev pub with-second : (ℕ → Vote) → ℕ → ℕ → ℕ → Vote

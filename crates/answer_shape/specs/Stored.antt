@@ -3,8 +3,8 @@
 -- tested against the votes.
 use mathlib.Core.Bool.{Bool, true, _&&_}
 use mathlib.Core.List.{List}
-use Prim.Native.Nat.{ℕ, _<_}
-use lib.Dec.{T, eqb, ltb}
+use Prim.Native.Nat.{ℕ}
+use lib.Dec.{eqb, ltb}
 use Rattle.grandpa.specs.Tree.{below}
 use Rattle.context.specs.declared.Phase.{Phase}
 use Rattle.context.specs.declared.Phase.the-variants.{Prevote, Precommit}
@@ -30,8 +30,3 @@ all-stored parents count base a =
 unfoldable pub weighed : List ℕ → List ℕ → Heard → Bool
 weighed weights root h =
     eqb (h .prevote) (weightOf weights (voted root Prevote)) && eqb (h .precommit) (weightOf weights (voted root Precommit))
-
--- what the test of a stored block says
-abbrev pub Stored : List ℕ → ℕ → ℕ → Found → Type 0
-Stored parents count base Nothing = Unit {0}
-Stored parents count base (At b) = (b < count) × T (below (col parents) base b)

@@ -6,8 +6,11 @@ use answers::Answers;
 use answers::Heard;
 use context::Phase;
 use nodes::Found;
+use sizes::BLOCKS;
+use sizes::VOTERS;
+use sizes::WORDS;
 
-fn is_stored(parents: &[u8; 256], count: usize, base: u8, block: Found) -> bool
+fn is_stored(parents: &[u8; BLOCKS], count: usize, base: u8, block: Found) -> bool
     requires { ⌜ Falls (now parents) ⌝ }
     ensures { λ r. ⌜ r ≡ stored (now (parents .entry)) count base block ⌝ }
 {
@@ -23,7 +26,7 @@ fn is_stored(parents: &[u8; 256], count: usize, base: u8, block: Found) -> bool
 }
 
 // The four stored blocks are in the table, at or below the base.
-pub fn are_stored(parents: &[u8; 256], count: usize, base: u8, answers: Answers) -> bool
+pub fn are_stored(parents: &[u8; BLOCKS], count: usize, base: u8, answers: Answers) -> bool
     requires { ⌜ Falls (now parents) ⌝ }
     ensures { λ r. ⌜ r ≡ all-stored (now (parents .entry)) count base answers ⌝ }
 {
@@ -44,7 +47,7 @@ pub fn are_stored(parents: &[u8; 256], count: usize, base: u8, answers: Answers)
 }
 
 // Heard weights are those of the voters whose bits the base's node has.
-pub fn is_weighed(weights: &[u64; 64], root: [u64; 2], heard: Heard) -> bool
+pub fn is_weighed(weights: &[u64; VOTERS], root: [u64; WORDS], heard: Heard) -> bool
     ensures { λ r. ⌜ r ≡ weighed (now (weights .entry)) root heard ⌝ }
 {
     if heard.prevote != context::weighing::weight(weights, root, Phase::Prevote) {

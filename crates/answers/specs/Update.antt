@@ -20,6 +20,18 @@ use Rattle.nodes.specs.Columns.{Columns, Sound, view, as-found}
 use Rattle.answers.specs.declared.Answers.{Answers}
 use Rattle.answers.specs.declared.Heard.{Heard}
 
+-- nothing is heard, and nothing stored
+abbrev pub no-heard : Heard
+no-heard = record { prevote = 0; precommit = 0 }
+
+abbrev pub no-answers : Answers
+no-answers = record { prevote = Nothing; precommit = Nothing; finalized = Nothing; estimate = Nothing; completable = false }
+
+-- w is heard in a phase
+abbrev pub heard-as : Phase → ℕ → Heard → Heard
+heard-as Prevote w h = record { prevote = w; precommit = h .precommit }
+heard-as Precommit w h = record { prevote = h .prevote; precommit = w }
+
 -- what both phases' searches go by
 pub record Scene : Type 0 where
   pub parents : List ℕ
@@ -123,11 +135,7 @@ pub record Grounded (parents : List ℕ) (base : ℕ) (graph : Columns) : Type 0
   pub count : ℕ
   pub sound : Sound parents ids base count graph
 
--- the columns and the scene as the code is lent them
-abbrev pub lent : List Bool → List ℕ → List (List ℕ) → List ℕ → ℕ → List ℕ → ℕ → Columns
-lent used above rows order listed heads tips =
-    record { used = used; above = above; rows = rows; order = order; listed = listed; heads = heads; tips = tips }
-
+-- the scene as the code is lent it
 abbrev pub scene : List ℕ → ℕ → List ℕ → ℕ → Columns → List ℕ → Scene
 scene parents base weights threshold graph equivocations =
     record { parents = parents; base = base; weights = weights; threshold = threshold; graph = graph; equivocations = equivocations }

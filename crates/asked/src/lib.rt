@@ -14,6 +14,7 @@ use round::Round;
 use round::Told;
 use round::Whether;
 use round_words::SIZE;
+use sizes::HISTORY;
 use tracker::Pair;
 use two_views::Views;
 
@@ -240,8 +241,8 @@ fn counted(back: Back, words: &[u64; SIZE]) -> Tally {
     }
 }
 
-// 256 records of 22 bytes: room for any list.
-const ROOM: usize = 5632;
+// A record of 22 bytes for each entry of history: room for any list.
+const ROOM: usize = 22 * HISTORY;
 
 // Whether a lent buffer no longer has what was put there.
 fn spoiled(out: &[u8; ROOM]) -> u64 {

@@ -2,11 +2,12 @@
 use mathlib.Core.Bool.{Bool, true, false, cond}
 use mathlib.Core.List.{List, _++_}
 use mathlib.Core.Path.{_≡_, refl, subst}
-use Prim.Native.Nat.{ℕ, _+_, _≤_, _<_}
+use Prim.Native.Nat.{ℕ, _+_, _*_, _≤_, _<_}
 use native.Mathlib.Omega.{arith}
 use lib.Dec.{ltb}
 use lib.ListN.{length, drop}
 use borrow.Author.Tests.{ltb-true, ltb-false}
+use Rattle.sizes.specs.Sizes.{VOTES}
 use Rattle.grandpa.specs.Views.{two-views}
 use Rattle.nodes.specs.declared.Found.{Found}
 use Rattle.nodes.specs.declared.Found.the-variants.{At, Nothing}
@@ -67,19 +68,19 @@ module _ (out : List ℕ) where
   unfolding print-call
   print-results journal = given-results 432 out (lines-of (replayed journal)) (lines-size (replayed journal))
 
-  pub finalizing-results : (journal : List ℕ) → Results 2816 out (finalizing-call journal out)
+  pub finalizing-results : (journal : List ℕ) → Results (22 * VOTES) out (finalizing-call journal out)
   unfolding finalizing-call
   finalizing-results journal =
       let r = replayed journal .journal .round in
-      unless-results 2816 out journal _
-      (λ e. cond-results 2816 out (has-round (replayed journal .journal .turn)) _ _ (λ t. go r (round-passes journal t) (r .answers .finalized))
-      (no-results 2816 out 15 (omega arith) (omega arith)))
+      unless-results (22 * VOTES) out journal _
+      (λ e. cond-results (22 * VOTES) out (has-round (replayed journal .journal .turn)) _ _ (λ t. go r (round-passes journal t) (r .answers .finalized))
+      (no-results (22 * VOTES) out 15 (omega arith) (omega arith)))
     where
-      go : (r : Round) → shaped r ≡ true → (found : Found) → Results 2816 out (finalizing-in r found out)
+      go : (r : Round) → shaped r ≡ true → (found : Found) → Results (22 * VOTES) out (finalizing-in r found out)
       go r s (At b) =
-          given-results 2816 out
+          given-results (22 * VOTES) out
           (in-a-row (record-of (r .votes) (r .context .voters .ids) (r .table .ids) (r .table .numbers)) (entries-of (Finalizing b) r)) (list-size r s b)
-      go r s Nothing = no-results 2816 out 15 (omega arith) (omega arith)
+      go r s Nothing = no-results (22 * VOTES) out 15 (omega arith) (omega arith)
 
   weighed-results : (a b : Round) → Results 8 out (weighed (views-in a b) out)
   unfolding views-in

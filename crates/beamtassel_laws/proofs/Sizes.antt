@@ -1,22 +1,20 @@
 -- How long a text and a list can be.
-use mathlib.Core.Bool.{Bool, true, false, cond, _&&_}
-use mathlib.Core.List.{List, [], _∷_, _++_}
-use mathlib.Core.Path.{_≡_, refl, ap, _∙_}
-use Prim.Native.Nat.{ℕ, zero, suc, _+_, _*_, _/_, _%_, _≤_}
+use mathlib.Core.Bool.{Bool, true, false}
+use mathlib.Core.List.{List, _++_}
+use mathlib.Core.Path.{_≡_}
+use Prim.Native.Nat.{ℕ, _+_, _*_, _≤_}
 use native.Mathlib.Omega.{arith}
-use lib.Dec.{ltb}
 use lib.ListN.{length, length-append}
-use borrow.Author.Tests.{eq-eqb}
+use Rattle.sizes.specs.Sizes.{VOTES}
 use Rattle.loops.specs.Listing.{keep}
 use Rattle.weights.specs.Weights.{plus}
 use Rattle.context.specs.declared.Phase.the-variants.{Prevote, Precommit}
-use Rattle.loops.proofs.Tests.{T-true, and-false}
-use Rattle.loops.proofs.Listings.{keep-append}
-use Rattle.nodes.specs.Nodes.{col}
+use Rattle.loops.proofs.Tests.{T-true}
 use Rattle.listing.specs.declared.Wanted.the-variants.{Finalizing}
-use Rattle.listing.specs.Entries.{counting, wants}
+use Rattle.listing.specs.Entries.{by-voter, wants}
 use Rattle.listing.specs.Written.{record-of, in-a-row}
 use Rattle.listing.proofs.Rows.{row-length, record-size}
+use Rattle.listing.proofs.Voters.{few-kept}
 use Rattle.answers.specs.declared.Answers.{Answers}
 use Rattle.round.specs.declared.Round.{Round}
 use Rattle.round.specs.declared.Told.{Told}
@@ -35,69 +33,17 @@ use Rattle.lines.specs.Lines.{text, decimal, named, line, heard-line, block-end
 use Rattle.lines.proofs.Decimals.{decimal-length}
 use Rattle.report.specs.Report.{lines-by, lines-of}
 
--- of a voter's four entries the first two are prevotes
-module _ (times places parents : List ℕ) (b : ℕ) where
-  abbrev wanted : ℕ → Bool
-  wanted e = wants times places parents (Finalizing b) e
-
-  not-wanted : (e : ℕ) → e / 2 % 2 ≡ 0 → wanted e ≡ false
-  unfolding wants
-  not-wanted e h = rw (eq-eqb (e / 2 % 2) 0 h) (and-false (ltb (e % 2) (col times (e / 2))))
-
-  abbrev one-if : Bool → ℕ
-  one-if t = cond t 1 0
-
-  kept-one : (xs : List ℕ) (x : ℕ) → length (keep wanted (xs ++ (x ∷ []))) ≡ length (keep wanted xs) + one-if (wanted x)
-  unfolding keep
-  kept-one xs x =
-      ap length (keep-append wanted xs (x ∷ [])) ∙ length-append (keep wanted xs) (keep wanted (x ∷ []))
-      ∙ ap (λ (n : ℕ). length (keep wanted xs) + n) (go (wanted x))
-    where
-      go : (t : Bool) → length (cond t (x ∷ []) []) ≡ one-if t
-      go true = refl
-      go false = refl
-
-  at-most-one : (t : Bool) → one-if t ≤ 1
-  at-most-one true = omega arith
-  at-most-one false = omega arith
-
-  none : (e : ℕ) → e / 2 % 2 ≡ 0 → one-if (wanted e) ≡ 0
-  none e h = ap one-if (not-wanted e h)
-
-  next : (n : ℕ) → length (keep wanted (counting (suc n))) ≡ length (keep wanted (counting n)) + one-if (wanted n)
-  unfolding counting
-  next n = kept-one (counting n) n
-
-  pub two-each : (n : ℕ) → length (keep wanted (counting (4 * n))) ≤ 2 * n
-  unfolding counting keep
-  two-each zero = omega arith
-  two-each (suc n) =
-      let e : 4 * suc n ≡ suc (suc (suc (suc (4 * n)))) = omega arith in
-      rw e
-      (omega (
-        arith,
-        two-each n,
-        next (suc (suc (suc (4 * n)))),
-        next (suc (suc (4 * n))),
-        next (suc (4 * n)),
-        next (4 * n),
-        at-most-one (wanted (suc (suc (suc (4 * n))))),
-        at-most-one (wanted (suc (suc (4 * n)))),
-        none (suc (4 * n)) (omega arith),
-        none (4 * n) (omega arith),
-      ))
-
--- two precommits of 64 voters, 22 bytes each
+-- two precommits of each voter, 22 bytes each
 pub list-size : (r : Round) → shaped r ≡ true → (b : ℕ)
-    → length (in-a-row (record-of (r .votes) (r .context .voters .ids) (r .table .ids) (r .table .numbers)) (entries-of (Finalizing b) r)) ≤ 2816
+    → length (in-a-row (record-of (r .votes) (r .context .voters .ids) (r .table .ids) (r .table .numbers)) (entries-of (Finalizing b) r)) ≤ 22 * VOTES
 unfolding entries-of
 list-size r s b =
     omega (
       arith,
       row-length (record-of (r .votes) (r .context .voters .ids) (r .table .ids) (r .table .numbers))
           (record-size (r .votes) (r .context .voters .ids) (r .table .ids) (r .table .numbers))
-          (keep (wants (r .votes .times) (r .votes .places) (r .table .parents) (Finalizing b)) (counting (4 * r .context .voters .count))),
-      two-each (r .votes .times) (r .votes .places) (r .table .parents) b (r .context .voters .count),
+          (keep (wants (r .votes .counts) (r .votes .«first_block») (r .table .parents) (Finalizing b)) (by-voter Precommit (r .context .voters .count))),
+      few-kept (wants (r .votes .counts) (r .votes .«first_block») (r .table .parents) (Finalizing b)) Precommit (r .context .voters .count),
       voters-good r (T-true s) .few,
     )
 

@@ -1,11 +1,14 @@
 // Sets of bits by value: bitfield.rs of finality-grandpa. There the words grow as bits are set; here there are
-// always two, enough for 64 voters with two bits each, and a bit past them is never set.
+// always WORDS, enough for VOTERS with two bits each, and a bit past them is never set.
 ghost use mathlib.Core.Path.{_≡_};
 ghost use Prim.Native.Nat.{_<_, _-_, _%_};
 ghost use lib.Bits.{bitAnd};
 ghost use lib.ListN.{getD, replicate};
+ghost use Rattle.sizes.specs.Sizes.{WORDS};
 ghost use Rattle.bitfield.specs.Bits.{has, put, words, joined, blank, every};
 ghost use Rattle.bitfield.specs.Walk.{firstOf, next};
+use sizes::WORD;
+use sizes::WORDS;
 
 // A bit that is set.
 pub struct Bit1 {
@@ -20,7 +23,7 @@ pub enum Found {
 // What a step of a walk finds, and the words that are left to walk.
 pub struct Step {
     pub found: Found,
-    pub left: [u64; 2],
+    pub left: [u64; WORDS],
 }
 
 // A set bit of a word, and the word without it.
@@ -30,7 +33,7 @@ struct First {
 }
 
 // How many bits there are.
-const BITS: usize = 128;
+const BITS: usize = WORD * WORDS;
 
 // A word without a bit.
 const NONE: u64 = 0;
@@ -40,14 +43,14 @@ const EVEN: u64 = 0xAAAAAAAAAAAAAAAA;
 
 const ODD: u64 = EVEN >> 1;
 
-pub fn new() -> [u64; 2]
-    ensures { λ r. ⌜ r ≡ replicate 2 0 ⌝ }
+pub fn new() -> [u64; WORDS]
+    ensures { λ r. ⌜ r ≡ replicate WORDS 0 ⌝ }
 {
-    [NONE; 2]
+    [NONE; WORDS]
 }
 
 // No bit at all: the Rust's empty vector. Empty and all-zero weigh alike, and here there is only all-zero.
-pub fn is_blank(bits: [u64; 2]) -> bool
+pub fn is_blank(bits: [u64; WORDS]) -> bool
     ensures { λ r. ⌜ r ≡ blank bits ⌝ }
 {
     if bits[0] != NONE {
@@ -56,7 +59,7 @@ pub fn is_blank(bits: [u64; 2]) -> bool
     bits[1] == NONE
 }
 
-pub fn merge(bits: [u64; 2], other: [u64; 2]) -> [u64; 2]
+pub fn merge(bits: [u64; WORDS], other: [u64; WORDS]) -> [u64; WORDS]
     ensures { λ r. ⌜ r ≡ joined bits other ⌝ }
 {
     [bits[0] | other[0], bits[1] | other[1]]
@@ -70,7 +73,7 @@ fn shift_of(position: usize) -> u32
 }
 
 // A case for each word: a word at a computed index would have to go through memory.
-pub fn set_bit(bits: [u64; 2], position: usize) -> [u64; 2]
+pub fn set_bit(bits: [u64; WORDS], position: usize) -> [u64; WORDS]
     ensures { λ r. ⌜ r ≡ put bits position ⌝ }
 {
     let value = 1u64 << shift_of(position);
@@ -83,7 +86,7 @@ pub fn set_bit(bits: [u64; 2], position: usize) -> [u64; 2]
     bits
 }
 
-pub fn test_bit(bits: [u64; 2], position: usize) -> bool
+pub fn test_bit(bits: [u64; WORDS], position: usize) -> bool
     ensures { λ r. ⌜ r ≡ has bits position ⌝ }
 {
     if BITS <= position {
@@ -94,32 +97,32 @@ pub fn test_bit(bits: [u64; 2], position: usize) -> bool
 }
 
 // The bits of a mask.
-fn iter1s(bits: [u64; 2], mask: u64) -> [u64; 2]
-    ensures { λ r. ⌜ r ≡ words 2 (λ i. bitAnd (getD bits i 0) mask) ⌝ }
+fn iter1s(bits: [u64; WORDS], mask: u64) -> [u64; WORDS]
+    ensures { λ r. ⌜ r ≡ words WORDS (λ i. bitAnd (getD bits i 0) mask) ⌝ }
 {
     [bits[0] & mask, bits[1] & mask]
 }
 
 // The four walks of the Rust: each gives the words that `next` is to walk.
-pub fn iter1s_even(bits: [u64; 2]) -> [u64; 2]
+pub fn iter1s_even(bits: [u64; WORDS]) -> [u64; WORDS]
     ensures { λ r. ⌜ r ≡ every 0 bits ⌝ }
 {
     iter1s(bits, EVEN)
 }
 
-pub fn iter1s_odd(bits: [u64; 2]) -> [u64; 2]
+pub fn iter1s_odd(bits: [u64; WORDS]) -> [u64; WORDS]
     ensures { λ r. ⌜ r ≡ every 1 bits ⌝ }
 {
     iter1s(bits, ODD)
 }
 
-pub fn iter1s_merged_even(bits: [u64; 2], other: [u64; 2]) -> [u64; 2]
+pub fn iter1s_merged_even(bits: [u64; WORDS], other: [u64; WORDS]) -> [u64; WORDS]
     ensures { λ r. ⌜ r ≡ every 0 (joined bits other) ⌝ }
 {
     iter1s_even(merge(bits, other))
 }
 
-pub fn iter1s_merged_odd(bits: [u64; 2], other: [u64; 2]) -> [u64; 2]
+pub fn iter1s_merged_odd(bits: [u64; WORDS], other: [u64; WORDS]) -> [u64; WORDS]
     ensures { λ r. ⌜ r ≡ every 1 (joined bits other) ⌝ }
 {
     iter1s_odd(merge(bits, other))
@@ -138,7 +141,7 @@ fn first_of(word: u64) -> First
 }
 
 // One step of a walk.
-pub fn next(left: [u64; 2]) -> Step
+pub fn next(left: [u64; WORDS]) -> Step
     ensures { λ r. ⌜ r ≡ next left ⌝ }
 {
     let first = left[0];

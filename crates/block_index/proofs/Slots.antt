@@ -9,6 +9,7 @@ use native.Mathlib.Omega.{arith}
 use lib.ListN.{length, getD, set, length-set}
 use lib.Seq.{getD-set-same, getD-set-other}
 use borrow.Author.Tests.{eq-eqb, ne-eqb}
+use Rattle.sizes.specs.Sizes.{BLOCKS}
 use Rattle.columns.specs.declared.Found.{Found}
 use Rattle.columns.specs.declared.Found.the-variants as found
 use Rattle.columns.specs.Find.{find, contains}
@@ -129,7 +130,7 @@ module _ (ids : List ℕ) (count : ℕ) where
   indexed-size zero slots = refl
   indexed-size (suc n) slots = indexed-size n _ ∙ length-set slots (slot (getD ids n 0)) n
 
-  pub index-indexed : (slots : List ℕ) → count ≤ 256 → length ids ≡ 256 → length slots ≡ 1024 → Indexed ids (indexed ids count slots) count
+  pub index-indexed : (slots : List ℕ) → count ≤ BLOCKS → length ids ≡ BLOCKS → length slots ≡ 1024 → Indexed ids (indexed ids count slots) count
   index-indexed slots few long size =
       record {
         few = few;
@@ -152,7 +153,7 @@ module _ (ids : List ℕ) (count : ℕ) where
   index-none slots left e = rw e
 
 -- a block whose id was absent, at the first unused place
-module _ (ids slots : List ℕ) (count id : ℕ) (room : count < 256)
+module _ (ids slots : List ℕ) (count id : ℕ) (room : count < BLOCKS)
     (new : place-of ids count id ≡ Nothing) (ix : Indexed ids slots count) where
   same-id : (j : ℕ) → j < count → getD (set ids count id) j 0 ≡ getD ids j 0
   same-id j h = getD-set-other ids count j id 0 (λ q. omega arith)
@@ -202,9 +203,9 @@ module _ (t : BlockTable) (slots : List ℕ) (id above : ℕ) (new : place-of (t
 
   append-keeps : Keeps (append t id above)
   unfolding append
-  append-keeps = numbers (ℕ-discrete (getD (t .numbers) above 0) 4294967295) (ℕ-discrete (t .count) 256)
+  append-keeps = numbers (ℕ-discrete (getD (t .numbers) above 0) 4294967295) (ℕ-discrete (t .count) BLOCKS)
     where
-      numbers : Dec (getD (t .numbers) above 0 ≡ 4294967295) → Dec (t .count ≡ 256) → Keeps (append t id above)
+      numbers : Dec (getD (t .numbers) above 0 ≡ 4294967295) → Dec (t .count ≡ BLOCKS) → Keeps (append t id above)
       numbers (yes q) d = rw (eq-eqb _ _ q) ix
       numbers (no q) (yes r) = rw (ne-eqb _ _ q, eq-eqb _ _ r) ix
       numbers (no q) (no r) = rw (ne-eqb _ _ q, ne-eqb _ _ r) (placed-indexed (t .ids) slots (t .count) id (omega (arith, ix .few)) new ix)

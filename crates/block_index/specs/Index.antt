@@ -4,6 +4,7 @@ use mathlib.Core.Logic.{_≢_}
 use mathlib.Core.Path.{_≡_}
 use Prim.Native.Nat.{ℕ, zero, suc, _*_, _/_, _%_, _≤_, _<_}
 use lib.ListN.{length, getD, set}
+use Rattle.sizes.specs.Sizes.{BLOCKS}
 use Rattle.blocks.specs.declared.Answer.{Answer}
 use Rattle.blocks.specs.declared.Answer.the-variants.{Placed, Refused}
 
@@ -22,8 +23,8 @@ pub record Slotted (ids slots : List ℕ) (count id : ℕ) : Type 0 where
   pub first : (j : ℕ) → j < held slots id → getD ids j 0 ≢ getD ids (held slots id) 0
 
 pub record Indexed (ids slots : List ℕ) (count : ℕ) : Type 0 where
-  pub few : count ≤ 256
-  pub ids-size : length ids ≡ 256
+  pub few : count ≤ BLOCKS
+  pub ids-size : length ids ≡ BLOCKS
   pub slots-size : length slots ≡ 1024
   pub used : (k : ℕ) → k < count → Slotted ids slots count (getD ids k 0)
 

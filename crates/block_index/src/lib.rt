@@ -3,12 +3,14 @@
 ghost use mathlib.Core.Path.{_≡_};
 ghost use Prim.Native.Nat.{_≤_};
 ghost use lib.ListN.{length};
+ghost use Rattle.sizes.specs.Sizes.{BLOCKS};
 ghost use Rattle.blocks.specs.Table.{table-of};
 ghost use Rattle.blocks.specs.Add.{place-of, step, counted};
 ghost use Rattle.blocks.specs.declared.Added.{Added};
 ghost use Rattle.block_index.specs.Index.{slot, Indexed, indexed, marked};
 use blocks::Answer;
 use blocks::Place;
+use sizes::BLOCKS;
 
 fn wide(place: u8) -> usize
     ensures { λ r. ⌜ r ≡ place ⌝ }
@@ -24,8 +26,8 @@ fn slot(id: u32) -> usize
 }
 
 // The slots of the used places. They are set from the last to the first, so of one id the first place stays.
-pub fn index(ids: &[u32; 256], slots: &mut [u8; 1024], count: usize)
-    requires { ⌜ (count ≤ 256) × (length (now ids) ≡ 256) × (length (now slots) ≡ 1024) ⌝ }
+pub fn index(ids: &[u32; BLOCKS], slots: &mut [u8; 1024], count: usize)
+    requires { ⌜ (count ≤ BLOCKS) × (length (now ids) ≡ BLOCKS) × (length (now slots) ≡ 1024) ⌝ }
     ensures { λ r. ⌜ now (slots .exit) ≡ indexed (now (ids .entry)) count (now (slots .entry)) ⌝ }
     ensures { λ r. ⌜ Indexed (now (ids .entry)) (now (slots .exit)) count ⌝ }
 {
@@ -37,7 +39,7 @@ pub fn index(ids: &[u32; 256], slots: &mut [u8; 1024], count: usize)
 }
 
 // The block with this id. Where another id is met in its slot, the search decides.
-pub fn place(ids: &[u32; 256], slots: &[u8; 1024], count: usize, id: u32) -> Place
+pub fn place(ids: &[u32; BLOCKS], slots: &[u8; 1024], count: usize, id: u32) -> Place
     requires { ⌜ Indexed (now ids) (now slots) count ⌝ }
     ensures { λ r. ⌜ r ≡ place-of (now (ids .entry)) count id ⌝ }
 {
@@ -71,9 +73,9 @@ fn mark(slots: &mut [u8; 1024], id: u32, answer: Answer)
 
 // One more block, as `blocks::add` has it.
 pub fn add(
-    ids: &mut [u32; 256],
-    numbers: &mut [u32; 256],
-    parents: &mut [u8; 256],
+    ids: &mut [u32; BLOCKS],
+    numbers: &mut [u32; BLOCKS],
+    parents: &mut [u8; BLOCKS],
     slots: &mut [u8; 1024],
     count: usize,
     id: u32,

@@ -9,6 +9,7 @@ use lib.Dec.{T, eqb→eq}
 use lib.ListN.{getD, set, replicate, length-set, getD-replicate, List·getD-eq-default}
 use lib.Seq.{getD-set-same, getD-set-other}
 use borrow.Author.Tests.{eq-eqb, ne-eqb}
+use Rattle.sizes.specs.Sizes.{BLOCKS}
 use Rattle.loops.proofs.Tests.{T-true, true-T, false-not, le-or-lt}
 use Rattle.columns.specs.declared.Found.{Found}
 use Rattle.columns.specs.declared.Found.the-variants as found
@@ -90,7 +91,7 @@ module _ (t : BlockTable) (id parent : ℕ) where
         none-contains t (tabled-shaped t h) id f,
         stands-found t (tabled-shaped t h) parent k p,
         ne-eqb _ _ e,
-        ne-eqb (t .count) 256 (λ q. omega arith),
+        ne-eqb (t .count) BLOCKS (λ q. omega arith),
       )
 
   -- one is due
@@ -101,14 +102,14 @@ module _ (t : BlockTable) (id parent : ℕ) where
       due {a} d = subst (Due t id parent) (sym (due-answer a d)) d
 
       counts : (h : T (tabled t)) → Absent t id → (k : ℕ) → Stands t parent k → getD (t .numbers) k 0 ≢ 4294967295
-          → Dec (t .count ≡ 256) → Due t id parent (add t id parent .answer)
+          → Dec (t .count ≡ BLOCKS) → Due t id parent (add t id parent .answer)
       counts h f k p e (yes n) = due (full h f k p e n)
       counts h f k p e (no n) = due (room h f k p e (omega (arith, tabled-shaped t h .few)))
 
       numbers : (h : T (tabled t)) → Absent t id → (k : ℕ) → Stands t parent k
           → Dec (getD (t .numbers) k 0 ≡ 4294967295) → Due t id parent (add t id parent .answer)
       numbers h f k p (yes e) = due (last-number h f k p e)
-      numbers h f k p (no e) = counts h f k p e (ℕ-discrete (t .count) 256)
+      numbers h f k p (no e) = counts h f k p e (ℕ-discrete (t .count) BLOCKS)
 
       parents : (h : T (tabled t)) → Absent t id → (p : Place) → place-of (t .ids) (t .count) parent ≡ p
           → Due t id parent (add t id parent .answer)
@@ -140,21 +141,21 @@ opened-shaped root number =
       parents-clear = λ k h. zeros k;
     }
   where
-    zeros : (k : ℕ) → getD {A = ℕ} (replicate 256 0) k 0 ≡ 0
-    zeros k = go (le-or-lt 256 k)
+    zeros : (k : ℕ) → getD {A = ℕ} (replicate BLOCKS 0) k 0 ≡ 0
+    zeros k = go (le-or-lt BLOCKS k)
       where
-        go : (256 ≤ k) ⊎ (k < 256) → getD {A = ℕ} (replicate 256 0) k 0 ≡ 0
-        go (inl h) = List·getD-eq-default (replicate 256 0) 0 h
-        go (inr h) = getD-replicate 256 k 0 0 h
+        go : (BLOCKS ≤ k) ⊎ (k < BLOCKS) → getD {A = ℕ} (replicate BLOCKS 0) k 0 ≡ 0
+        go (inl h) = List·getD-eq-default (replicate BLOCKS 0) 0 h
+        go (inr h) = getD-replicate BLOCKS k 0 0 h
 
-    after : (x k : ℕ) → 1 ≤ k → getD (set (replicate 256 0) 0 x) k 0 ≡ 0
-    after x k h = getD-set-other (replicate 256 0) 0 k x 0 (λ q. omega arith) ∙ zeros k
+    after : (x k : ℕ) → 1 ≤ k → getD (set (replicate BLOCKS 0) 0 x) k 0 ≡ 0
+    after x k h = getD-set-other (replicate BLOCKS 0) 0 k x 0 (λ q. omega arith) ∙ zeros k
 
 pub opened-tabled : (root number : ℕ) → tabled (opened root number) ≡ true
 opened-tabled root number = true-T _ (shaped-tabled (opened root number) (opened-shaped root number))
 
 -- a block more keeps the shape, and no block changes
-module _ (t : BlockTable) (s : Shaped t) (id above : ℕ) (under : above < t .count) (left : t .count < 256) where
+module _ (t : BlockTable) (s : Shaped t) (id above : ℕ) (under : above < t .count) (left : t .count < BLOCKS) where
   last-id : getD (set (t .ids) (t .count) id) (t .count) 0 ≡ id
   last-id = getD-set-same (t .ids) (t .count) id 0 (omega (arith, s .ids-size))
 
@@ -239,7 +240,7 @@ module _ (t : BlockTable) (s : Shaped t) (id above : ℕ) (under : above < t .co
 -- a call on a table that keeps the shape refuses, or places the block
 pub data Stepped (t : BlockTable) (id parent : ℕ) : Added → Type 0 where
   refuses : (n : ℕ) → Stepped t id parent (refused t n)
-  places : (above : ℕ) → Stands t parent above → Absent t id → t .count < 256 → Stepped t id parent (placed t id above)
+  places : (above : ℕ) → Stands t parent above → Absent t id → t .count < BLOCKS → Stepped t id parent (placed t id above)
 
 module _ (t : BlockTable) (s : Shaped t) (id parent : ℕ) where
   pub stepped : Stepped t id parent (step t id parent)
@@ -247,7 +248,7 @@ module _ (t : BlockTable) (s : Shaped t) (id parent : ℕ) where
   stepped = ids (contains (t .ids) (t .count) id) refl
     where
       counts : (c : contains (t .ids) (t .count) id ≡ false) (k : ℕ) → place-of (t .ids) (t .count) parent ≡ At k
-          → getD (t .numbers) k 0 ≢ 4294967295 → Dec (t .count ≡ 256) → Stepped t id parent (step t id parent)
+          → getD (t .numbers) k 0 ≢ 4294967295 → Dec (t .count ≡ BLOCKS) → Stepped t id parent (step t id parent)
       counts e k p n (yes q) = rw (e, p, ne-eqb _ _ n, eq-eqb _ _ q) (refuses 8)
       counts e k p n (no q) =
           rw (e, p, ne-eqb _ _ n, ne-eqb _ _ q) (places k (found-stands t s parent k p) (contains-none t s id e) (omega (arith, s .few)))
@@ -255,7 +256,7 @@ module _ (t : BlockTable) (s : Shaped t) (id parent : ℕ) where
       numbers : contains (t .ids) (t .count) id ≡ false → (k : ℕ) → place-of (t .ids) (t .count) parent ≡ At k
           → Dec (getD (t .numbers) k 0 ≡ 4294967295) → Stepped t id parent (step t id parent)
       numbers e k p (yes q) = rw (e, p, eq-eqb _ _ q) (refuses 7)
-      numbers e k p (no q) = counts e k p q (ℕ-discrete (t .count) 256)
+      numbers e k p (no q) = counts e k p q (ℕ-discrete (t .count) BLOCKS)
 
       parents : contains (t .ids) (t .count) id ≡ false → (p : Place) → place-of (t .ids) (t .count) parent ≡ p
           → Stepped t id parent (step t id parent)
@@ -279,7 +280,7 @@ module _ (t : BlockTable) (s : Shaped t) (id parent : ℕ) where
   stepped-refused n (places above p f l) e = absurd (let z : _≡_ {A = ℕ} 0 1 = cc in omega arith)
 
   stepped-placed : {a : Added} (k : ℕ) → Stepped t id parent a → a .answer ≡ Placed k
-      → (k ≡ t .count) × (above : ℕ) × Stands t parent above × Absent t id × (t .count < 256) × (a .table ≡ appended t id above)
+      → (k ≡ t .count) × (above : ℕ) × Stands t parent above × Absent t id × (t .count < BLOCKS) × (a .table ≡ appended t id above)
   stepped-placed k (refuses m) e = absurd (let z : _≡_ {A = ℕ} 0 1 = cc in omega arith)
   stepped-placed k (places above p f l) e = (cc, above, p, f, l, refl)
 
@@ -302,7 +303,7 @@ module _ (t : BlockTable) (s : Shaped t) (id parent : ℕ) where
   -- a placed block is the last, and new, under a parent that stands
   pub step-placed : (k : ℕ) → step t id parent .answer ≡ Placed k
       → (k ≡ t .count)
-      × (above : ℕ) × Stands t parent above × Absent t id × (t .count < 256) × (step t id parent .table ≡ appended t id above)
+      × (above : ℕ) × Stands t parent above × Absent t id × (t .count < BLOCKS) × (step t id parent .table ≡ appended t id above)
   step-placed k e = stepped-placed k stepped e
 
 -- the same of any table

@@ -8,6 +8,7 @@ use native.Mathlib.Omega.{arith}
 use lib.Dec.{T, eqb, leb, ltb, eqb→eq, leb→le, le→leb, ltb→lt, lt→ltb}
 use lib.ListN.{length, getD, List·getD-eq-default}
 use borrow.Author.Tests.{eq-eqb, ne-eqb, lt-ltb, le-ltb, le-leb, lt-leb}
+use Rattle.sizes.specs.Sizes.{BLOCKS}
 use Rattle.loops.specs.All.{all}
 use Rattle.loops.proofs.Tests.{T-true, true-T, T-false, false-T, false-not, both, left-of, right-of, in-left, in-right, either, le-or-lt}
 use Rattle.loops.proofs.Alls.{all-at, all-intro, all-none, all-more, all-turn}
@@ -29,9 +30,9 @@ module _ (column : List ℕ) (count : ℕ) where
   unfolding clear-at
   clear-turn k h = rw (← all-turn (clear-at column count) k, le-ltb k count h)
 
-  pub clear-means : length column ≡ 256 → T (is-clear column count) → (k : ℕ) → count ≤ k → getD column k 0 ≡ 0
+  pub clear-means : length column ≡ BLOCKS → T (is-clear column count) → (k : ℕ) → count ≤ k → getD column k 0 ≡ 0
   unfolding is-clear clear-at
-  clear-means e t k h = go (le-or-lt 256 k)
+  clear-means e t k h = go (le-or-lt BLOCKS k)
     where
       at : T (clear-at column count k) → getD column k 0 ≡ 0
       at s = pick (either (ltb k count) (eqb (getD column k 0) 0) s)
@@ -40,13 +41,13 @@ module _ (column : List ℕ) (count : ℕ) where
           pick (inl l) = absurd (omega (arith, ltb→lt k count l))
           pick (inr z) = eqb→eq (getD column k 0) 0 z
 
-      go : (256 ≤ k) ⊎ (k < 256) → getD column k 0 ≡ 0
+      go : (BLOCKS ≤ k) ⊎ (k < BLOCKS) → getD column k 0 ≡ 0
       go (inl l) = List·getD-eq-default column 0 (omega arith)
-      go (inr l) = at (all-at (clear-at column count) 256 t k l)
+      go (inr l) = at (all-at (clear-at column count) BLOCKS t k l)
 
   pub means-clear : ((k : ℕ) → count ≤ k → getD column k 0 ≡ 0) → T (is-clear column count)
   unfolding is-clear clear-at
-  means-clear f = all-intro (clear-at column count) 256 (λ k h. go k (le-or-lt count k))
+  means-clear f = all-intro (clear-at column count) BLOCKS (λ k h. go k (le-or-lt count k))
     where
       go : (k : ℕ) → (count ≤ k) ⊎ (k < count) → T (clear-at column count k)
       go k (inl l) = in-right (ltb k count) _ (T-true (eq-eqb _ _ (f k l)))
@@ -126,7 +127,7 @@ module _ (ids : List ℕ) (count : ℕ) (size : count ≤ length ids) where
       (λ k h. T-false (false-not (contains ids k (getD ids k 0)) (λ s. let r = contains-at ids k (getD ids k 0) s in f (r .0) k (omega (arith, r .1)) h (r .2))))
 
 -- sizes and counts
-pub sized-is : (ids numbers parents : List ℕ) → length ids ≡ 256 → length numbers ≡ 256 → length parents ≡ 256
+pub sized-is : (ids numbers parents : List ℕ) → length ids ≡ BLOCKS → length numbers ≡ BLOCKS → length parents ≡ BLOCKS
     → sized ids numbers parents ≡ true
 unfolding sized
 sized-is ids numbers parents a b c = rw (a, b, c)
@@ -136,13 +137,13 @@ module _ (n : ℕ) where
   unfolding count-fits
   none-fits h = rw h
 
-  pub many-fits : 256 < n → count-fits n ≡ false
+  pub many-fits : BLOCKS < n → count-fits n ≡ false
   unfolding count-fits
-  many-fits h = rw (lt-ltb 0 n (omega arith), lt-leb n 256 h)
+  many-fits h = rw (lt-ltb 0 n (omega arith), lt-leb n BLOCKS h)
 
-  pub count-fits-is : (n ≡ 0 → ⊥) → n ≤ 256 → count-fits n ≡ true
+  pub count-fits-is : (n ≡ 0 → ⊥) → n ≤ BLOCKS → count-fits n ≡ true
   unfolding count-fits
-  count-fits-is h l = rw (lt-ltb 0 n (omega arith), le-leb n 256 l)
+  count-fits-is h l = rw (lt-ltb 0 n (omega arith), le-leb n BLOCKS l)
 
 three : (a b c : Bool) → T (a && (b && c)) → T a × T b × T c
 three a b c t = let u = right-of a (b && c) t in (left-of a (b && c) t, left-of b c u, right-of b c u)
@@ -161,13 +162,13 @@ module _ (t : BlockTable) where
       let n = t .count in
       let all-five = three (sized ids numbers parents) (count-fits n) _ s in
       let rest = three (is-tree parents numbers n) (are-clear ids numbers parents n) (are-distinct ids n) (all-five .2) in
-      let sizes = three (eqb (length ids) 256) (eqb (length numbers) 256) (eqb (length parents) 256) (all-five .0) in
+      let sizes = three (eqb (length ids) BLOCKS) (eqb (length numbers) BLOCKS) (eqb (length parents) BLOCKS) (all-five .0) in
       let clears = three (is-clear ids n) (is-clear numbers n) (is-clear parents n) (rest .1) in
-      let ids-size : length ids ≡ 256 = eqb→eq (length ids) 256 (sizes .0) in
-      let numbers-size : length numbers ≡ 256 = eqb→eq (length numbers) 256 (sizes .1) in
-      let parents-size : length parents ≡ 256 = eqb→eq (length parents) 256 (sizes .2) in
-      let rooted : 0 < n = ltb→lt 0 n (left-of (ltb 0 n) (leb n 256) (all-five .1)) in
-      let few : n ≤ 256 = leb→le n 256 (right-of (ltb 0 n) (leb n 256) (all-five .1)) in
+      let ids-size : length ids ≡ BLOCKS = eqb→eq (length ids) BLOCKS (sizes .0) in
+      let numbers-size : length numbers ≡ BLOCKS = eqb→eq (length numbers) BLOCKS (sizes .1) in
+      let parents-size : length parents ≡ BLOCKS = eqb→eq (length parents) BLOCKS (sizes .2) in
+      let rooted : 0 < n = ltb→lt 0 n (left-of (ltb 0 n) (leb n BLOCKS) (all-five .1)) in
+      let few : n ≤ BLOCKS = leb→le n BLOCKS (right-of (ltb 0 n) (leb n BLOCKS) (all-five .1)) in
       let parents-clear = clear-means parents n parents-size (clears .2) in
       let apart = distinct-means ids n (omega arith) (rest .2) in
       record {
@@ -197,7 +198,7 @@ module _ (t : BlockTable) where
       let parents = t .parents in
       let n = t .count in
       let sizes =
-      all-three (eqb (length ids) 256) (eqb (length numbers) 256) (eqb (length parents) 256)
+      all-three (eqb (length ids) BLOCKS) (eqb (length numbers) BLOCKS) (eqb (length parents) BLOCKS)
       (T-true (eq-eqb _ _ (s .ids-size)))
       (T-true (eq-eqb _ _ (s .numbers-size)))
       (T-true (eq-eqb _ _ (s .parents-size)))
@@ -214,7 +215,7 @@ module _ (t : BlockTable) where
       clears
       (means-distinct ids n (omega (arith, s .few, s .ids-size)) apart)
       in
-      all-three (sized ids numbers parents) (count-fits n) _ sizes (both (ltb 0 n) (leb n 256) (lt→ltb 0 n (s .rooted)) (le→leb n 256 (s .few))) rest
+      all-three (sized ids numbers parents) (count-fits n) _ sizes (both (ltb 0 n) (leb n BLOCKS) (lt→ltb 0 n (s .rooted)) (le→leb n BLOCKS (s .few))) rest
     where
       apart : (j k : ℕ) → j < k → k < t .count → getD (t .ids) j 0 ≡ getD (t .ids) k 0 → ⊥
       apart j k h l e =

@@ -7,19 +7,20 @@ use mathlib.Core.Path.{_≡_}
 use Prim.Native.Nat.{ℕ, _+_, _≤_, _<_}
 use lib.Dec.{eqb, leb, ltb}
 use lib.ListN.{length, getD}
+use Rattle.sizes.specs.Sizes.{BLOCKS}
 use Rattle.loops.specs.All.{all}
 use Rattle.columns.specs.Find.{contains}
 use Rattle.grandpa.specs.Tree.{Tabled}
 use Rattle.blocks.specs.declared.BlockTable.{BlockTable}
 use Rattle.blocks.specs.Table.{up, blocks, Stands}
 
--- arrays of 256, which the types say of a table in code
+-- arrays of BLOCKS, which the types say of a table in code
 unfoldable pub sized : List ℕ → List ℕ → List ℕ → Bool
-sized ids numbers parents = eqb (length ids) 256 && (eqb (length numbers) 256 && eqb (length parents) 256)
+sized ids numbers parents = eqb (length ids) BLOCKS && (eqb (length numbers) BLOCKS && eqb (length parents) BLOCKS)
 
 -- counts within sizes
 unfoldable pub count-fits : ℕ → Bool
-count-fits count = ltb 0 count && leb count 256
+count-fits count = ltb 0 count && leb count BLOCKS
 
 -- a block but the root names an earlier one as parent and has the parent's number plus 1
 unfoldable pub is-child : List ℕ → List ℕ → ℕ → Bool
@@ -46,7 +47,7 @@ clear-at column count k = ltb k count || eqb (getD column k 0) 0
 
 -- unused places are 0
 unfoldable pub is-clear : List ℕ → ℕ → Bool
-is-clear column count = all 256 (clear-at column count)
+is-clear column count = all BLOCKS (clear-at column count)
 
 unfoldable pub are-clear : List ℕ → List ℕ → List ℕ → ℕ → Bool
 are-clear ids numbers parents count = is-clear ids count && (is-clear numbers count && is-clear parents count)
@@ -62,11 +63,11 @@ tabled t =
 
 -- what the test says
 pub record Shaped (t : BlockTable) : Type 0 where
-  pub ids-size : length (t .ids) ≡ 256
-  pub numbers-size : length (t .numbers) ≡ 256
-  pub parents-size : length (t .parents) ≡ 256
+  pub ids-size : length (t .ids) ≡ BLOCKS
+  pub numbers-size : length (t .numbers) ≡ BLOCKS
+  pub parents-size : length (t .parents) ≡ BLOCKS
   pub rooted : 0 < t .count
-  pub few : t .count ≤ 256
+  pub few : t .count ≤ BLOCKS
   pub tree : Tabled (blocks t)
   pub distinct : (id j k : ℕ) → Stands t id j → Stands t id k → j ≡ k
   pub ids-clear : (k : ℕ) → t .count ≤ k → getD (t .ids) k 0 ≡ 0

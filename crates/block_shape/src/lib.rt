@@ -2,22 +2,24 @@
 ghost use mathlib.Core.Path.{_≡_};
 ghost use Prim.Native.Nat.{_≤_, _<_};
 ghost use lib.ListN.{length};
+ghost use Rattle.sizes.specs.Sizes.{BLOCKS};
 ghost use Rattle.blocks.specs.Table.{table-of};
 ghost use Rattle.block_shape.specs.Shape.{is-child, is-tree, are-distinct, is-clear, are-clear, tabled};
+use sizes::BLOCKS;
 
 pub fn is_table<'a>(
-    ids: &'a [u32; 256],
-    numbers: &'a [u32; 256],
-    parents: &'a [u8; 256],
+    ids: &'a [u32; BLOCKS],
+    numbers: &'a [u32; BLOCKS],
+    parents: &'a [u8; BLOCKS],
     count: usize,
 ) -> bool
-    requires { ⌜ (length (now ids) ≡ 256) × (length (now numbers) ≡ 256) × (length (now parents) ≡ 256) ⌝ }
+    requires { ⌜ (length (now ids) ≡ BLOCKS) × (length (now numbers) ≡ BLOCKS) × (length (now parents) ≡ BLOCKS) ⌝ }
     ensures { λ r. ⌜ r ≡ tabled (table-of (now (ids .entry)) (now (numbers .entry)) (now (parents .entry)) count) ⌝ }
 {
     if count == 0 {
         return false;
     }
-    if 256 < count {
+    if BLOCKS < count {
         return false;
     }
     if !is_tree(parents, numbers, count) {
@@ -30,8 +32,8 @@ pub fn is_table<'a>(
 }
 
 // Every block but the root names an earlier one and has its number plus 1.
-fn is_tree<'a>(parents: &'a [u8; 256], numbers: &'a [u32; 256], count: usize) -> bool
-    requires { ⌜ (0 < count) × (count ≤ 256) ⌝ }
+fn is_tree<'a>(parents: &'a [u8; BLOCKS], numbers: &'a [u32; BLOCKS], count: usize) -> bool
+    requires { ⌜ (0 < count) × (count ≤ BLOCKS) ⌝ }
     ensures { λ r. ⌜ r ≡ is-tree (now (parents .entry)) (now (numbers .entry)) count ⌝ }
 {
     if parents[0] != 0 {
@@ -45,8 +47,8 @@ fn is_tree<'a>(parents: &'a [u8; 256], numbers: &'a [u32; 256], count: usize) ->
     true
 }
 
-fn is_child<'a>(parents: &'a [u8; 256], numbers: &'a [u32; 256], k: usize) -> bool
-    requires { ⌜ k < 256 ⌝ }
+fn is_child<'a>(parents: &'a [u8; BLOCKS], numbers: &'a [u32; BLOCKS], k: usize) -> bool
+    requires { ⌜ k < BLOCKS ⌝ }
     ensures { λ r. ⌜ r ≡ is-child (now (parents .entry)) (now (numbers .entry)) k ⌝ }
 {
     let parent = wide(parents[k]);
@@ -56,8 +58,8 @@ fn is_child<'a>(parents: &'a [u8; 256], numbers: &'a [u32; 256], k: usize) -> bo
     wider(numbers[k]) == wider(numbers[parent]) + 1
 }
 
-fn are_distinct(ids: &[u32; 256], count: usize) -> bool
-    requires { ⌜ count ≤ 256 ⌝ }
+fn are_distinct(ids: &[u32; BLOCKS], count: usize) -> bool
+    requires { ⌜ count ≤ BLOCKS ⌝ }
     ensures { λ r. ⌜ r ≡ are-distinct (now (ids .entry)) count ⌝ }
 {
     for k in 0..count {
@@ -70,12 +72,12 @@ fn are_distinct(ids: &[u32; 256], count: usize) -> bool
 
 // The places from `count` on are 0.
 fn are_clear<'a>(
-    ids: &'a [u32; 256],
-    numbers: &'a [u32; 256],
-    parents: &'a [u8; 256],
+    ids: &'a [u32; BLOCKS],
+    numbers: &'a [u32; BLOCKS],
+    parents: &'a [u8; BLOCKS],
     count: usize,
 ) -> bool
-    requires { ⌜ count ≤ 256 ⌝ }
+    requires { ⌜ count ≤ BLOCKS ⌝ }
     ensures { λ r. ⌜ r ≡ are-clear (now (ids .entry)) (now (numbers .entry)) (now (parents .entry)) count ⌝ }
 {
     if !is_clear(ids, count) {
@@ -87,30 +89,30 @@ fn are_clear<'a>(
     is_clear_of_places(parents, count)
 }
 
-fn is_clear(column: &[u32; 256], from: usize) -> bool
-    requires { ⌜ from ≤ 256 ⌝ }
+fn is_clear(column: &[u32; BLOCKS], from: usize) -> bool
+    requires { ⌜ from ≤ BLOCKS ⌝ }
     ensures { λ r. ⌜ r ≡ is-clear (now (column .entry)) from ⌝ }
 {
     let mut clear = true;
-    for k in from..256 {
+    for k in from..BLOCKS {
         clear = (column[k] == 0) & clear;
     }
     clear
 }
 
-fn is_clear_of_places(column: &[u8; 256], from: usize) -> bool
-    requires { ⌜ from ≤ 256 ⌝ }
+fn is_clear_of_places(column: &[u8; BLOCKS], from: usize) -> bool
+    requires { ⌜ from ≤ BLOCKS ⌝ }
     ensures { λ r. ⌜ r ≡ is-clear (now (column .entry)) from ⌝ }
 {
     let mut clear = true;
-    for k in from..256 {
+    for k in from..BLOCKS {
         clear = (column[k] == 0) & clear;
     }
     clear
 }
 
 fn wide(x: u8) -> usize
-    ensures { λ r. ⌜ (r ≡ x) × (r < 256) ⌝ }
+    ensures { λ r. ⌜ (r ≡ x) × (r < BLOCKS) ⌝ }
 {
     x as usize
 }

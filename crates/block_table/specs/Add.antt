@@ -6,6 +6,7 @@ use mathlib.Core.Logic.{_≢_}
 use Prim.Native.Nat.{ℕ, _<_}
 use lib.Dec.{T}
 use lib.ListN.{getD, set, replicate}
+use Rattle.sizes.specs.Sizes.{BLOCKS}
 use Rattle.blocks.specs.declared.BlockTable.{BlockTable}
 use Rattle.blocks.specs.declared.Answer.{Answer}
 use Rattle.blocks.specs.declared.Answer.the-variants.{Placed, Refused}
@@ -17,7 +18,7 @@ use Rattle.block_shape.specs.Shape.{tabled}
 -- a root with its number, and no other block
 unfoldable pub opened : ℕ → ℕ → BlockTable
 opened root number =
-    record { ids = set (replicate 256 0) 0 root; numbers = set (replicate 256 0) 0 number; parents = replicate 256 0; count = 1 }
+    record { ids = set (replicate BLOCKS 0) 0 root; numbers = set (replicate BLOCKS 0) 0 number; parents = replicate BLOCKS 0; count = 1 }
 
 -- on any table
 unfoldable pub add : BlockTable → ℕ → ℕ → Added
@@ -31,6 +32,6 @@ pub data Due (t : BlockTable) (id parent : ℕ) : Answer → Type 0 where
   last-number : T (tabled t) → Absent t id → (k : ℕ) → Stands t parent k → getD (t .numbers) k 0 ≡ 4294967295
       → Due t id parent (Refused 7)
   full : T (tabled t) → Absent t id → (k : ℕ) → Stands t parent k → getD (t .numbers) k 0 ≢ 4294967295
-      → t .count ≡ 256 → Due t id parent (Refused 8)
+      → t .count ≡ BLOCKS → Due t id parent (Refused 8)
   room : T (tabled t) → Absent t id → (k : ℕ) → Stands t parent k → getD (t .numbers) k 0 ≢ 4294967295
-      → t .count < 256 → Due t id parent (Placed (t .count))
+      → t .count < BLOCKS → Due t id parent (Placed (t .count))

@@ -7,6 +7,7 @@ pub use blocks::Added;
 pub use blocks::Answer;
 pub use blocks::BlockTable;
 pub use blocks::Place;
+use sizes::BLOCKS;
 
 // Where a block stands, asked of a table of anyone's making.
 pub enum Block {
@@ -33,9 +34,9 @@ pub enum Below {
 pub fn new(root: u32, number: u32) -> BlockTable
     ensures { λ r. ⌜ r ≡ opened root number ⌝ }
 {
-    let mut ids = [0u32; 256];
-    let mut numbers = [0u32; 256];
-    let parents = [0u8; 256];
+    let mut ids = [0u32; BLOCKS];
+    let mut numbers = [0u32; BLOCKS];
+    let parents = [0u8; BLOCKS];
     ids[0] = root;
     numbers[0] = number;
     BlockTable {

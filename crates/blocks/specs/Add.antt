@@ -5,6 +5,7 @@ use mathlib.Core.List.{List}
 use Prim.Native.Nat.{ℕ, _+_}
 use lib.Dec.{eqb}
 use lib.ListN.{getD, set}
+use Rattle.sizes.specs.Sizes.{BLOCKS}
 use Rattle.columns.specs.declared.Found.{Found}
 use Rattle.columns.specs.declared.Found.the-variants as found
 use Rattle.columns.specs.Find.{find, contains}
@@ -46,7 +47,7 @@ placed t id above = record { answer = Placed (t .count); table = appended t id a
 unfoldable pub append : BlockTable → ℕ → ℕ → Added
 append t id above =
     cond (eqb (getD (t .numbers) above 0) 4294967295) (refused t 7)
-    (cond (eqb (t .count) 256) (refused t 8) (placed t id above))
+    (cond (eqb (t .count) BLOCKS) (refused t 8) (placed t id above))
 
 unfoldable pub step : BlockTable → ℕ → ℕ → Added
 step t id parent =

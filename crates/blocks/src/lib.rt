@@ -3,19 +3,21 @@
 ghost use mathlib.Core.Path.{_≡_};
 ghost use Prim.Native.Nat.{ℕ, _≤_, _<_};
 ghost use lib.ListN.{getD};
+ghost use Rattle.sizes.specs.Sizes.{BLOCKS};
 ghost use Rattle.grandpa.specs.Tree.{Tabled, below};
 ghost use Rattle.blocks.specs.Table.{up, view, table-of, climbed};
 ghost use Rattle.blocks.specs.Add.{place-of, append, step, counted};
 ghost use Rattle.blocks.specs.declared.Added.{Added};
 use columns::Found;
+use sizes::BLOCKS;
 
 // The blocks by place, with unused places 0. A parent is a place; the root is its own. The fields are public, so that
 // the columns can be lent: a table of anyone's making can be handed in, and `is_table` tells it from one that was
 // built by calls.
 pub struct BlockTable {
-    pub ids: [u32; 256],
-    pub numbers: [u32; 256],
-    pub parents: [u8; 256],
+    pub ids: [u32; BLOCKS],
+    pub numbers: [u32; BLOCKS],
+    pub parents: [u8; BLOCKS],
     pub count: usize,
 }
 
@@ -38,8 +40,8 @@ pub enum Place {
 }
 
 // The block with this id.
-pub fn find(ids: &[u32; 256], count: usize, id: u32) -> Place
-    requires { ⌜ count ≤ 256 ⌝ }
+pub fn find(ids: &[u32; BLOCKS], count: usize, id: u32) -> Place
+    requires { ⌜ count ≤ BLOCKS ⌝ }
     ensures { λ r. ⌜ r ≡ place-of (now (ids .entry)) count id ⌝ }
 {
     let Found::At(place) = columns::find(ids, count, id) else {
@@ -48,7 +50,7 @@ pub fn find(ids: &[u32; 256], count: usize, id: u32) -> Place
     Place::At(place as u8)
 }
 
-pub fn number(numbers: &[u32; 256], block: u8) -> u32
+pub fn number(numbers: &[u32; BLOCKS], block: u8) -> u32
     ensures { λ r. ⌜ r ≡ getD (now (numbers .entry)) block 0 ⌝ }
 {
     numbers[block as usize]
@@ -56,8 +58,8 @@ pub fn number(numbers: &[u32; 256], block: u8) -> u32
 
 // The block of number `wanted` at or above a block.
 pub fn ancestor_at<'a>(
-    parents: &'a [u8; 256],
-    numbers: &'a [u32; 256],
+    parents: &'a [u8; BLOCKS],
+    numbers: &'a [u32; BLOCKS],
     block: u8,
     wanted: u32,
 ) -> u8
@@ -73,8 +75,8 @@ pub fn ancestor_at<'a>(
 
 // Whether `block` is `base` or under it: on the way up, the block of base's number is base.
 pub fn is_at_or_below<'a>(
-    parents: &'a [u8; 256],
-    numbers: &'a [u32; 256],
+    parents: &'a [u8; BLOCKS],
+    numbers: &'a [u32; BLOCKS],
     base: u8,
     block: u8,
 ) -> bool
@@ -86,14 +88,14 @@ pub fn is_at_or_below<'a>(
 
 // A block at the first unused place, under the block at `above`. Where it is placed, the caller counts it.
 pub fn append(
-    ids: &mut [u32; 256],
-    numbers: &mut [u32; 256],
-    parents: &mut [u8; 256],
+    ids: &mut [u32; BLOCKS],
+    numbers: &mut [u32; BLOCKS],
+    parents: &mut [u8; BLOCKS],
     count: usize,
     id: u32,
     above: u8,
 ) -> Answer
-    requires { ⌜ count ≤ 256 ⌝ }
+    requires { ⌜ count ≤ BLOCKS ⌝ }
     ensures { λ r. ⌜ _≡_ {A = Added} (record { answer = r; table = table-of (now (ids .exit)) (now (numbers .exit)) (now (parents .exit)) (counted count r) })
         (append (table-of (now (ids .entry)) (now (numbers .entry)) (now (parents .entry)) count) id above) ⌝ }
 {
@@ -101,7 +103,7 @@ pub fn append(
     if number == 4294967295 {
         return Answer::Refused(7);
     }
-    if count == 256 {
+    if count == BLOCKS {
         return Answer::Refused(8);
     }
     ids[count] = id;
@@ -112,14 +114,14 @@ pub fn append(
 
 // One more block. Where it is placed, the caller counts it.
 pub fn add(
-    ids: &mut [u32; 256],
-    numbers: &mut [u32; 256],
-    parents: &mut [u8; 256],
+    ids: &mut [u32; BLOCKS],
+    numbers: &mut [u32; BLOCKS],
+    parents: &mut [u8; BLOCKS],
     count: usize,
     id: u32,
     parent: u32,
 ) -> Answer
-    requires { ⌜ count ≤ 256 ⌝ }
+    requires { ⌜ count ≤ BLOCKS ⌝ }
     ensures { λ r. ⌜ _≡_ {A = Added} (record { answer = r; table = table-of (now (ids .exit)) (now (numbers .exit)) (now (parents .exit)) (counted count r) })
         (step (table-of (now (ids .entry)) (now (numbers .entry)) (now (parents .entry)) count) id parent) ⌝ }
 {
@@ -134,7 +136,7 @@ pub fn add(
 
 // The count after an answer.
 pub fn counted(count: usize, answer: Answer) -> usize
-    requires { ⌜ count ≤ 256 ⌝ }
+    requires { ⌜ count ≤ BLOCKS ⌝ }
     ensures { λ r. ⌜ r ≡ counted count answer ⌝ }
 {
     match answer {

@@ -10,6 +10,7 @@ use lib.Dec.{leb, eqb}
 use lib.ListN.{getD, set, length, length-set, length-append, length-replicate, replicate}
 use lib.Seq.{getD-set-same, getD-set-other}
 use borrow.Author.Tests.{eq-eqb, ne-eqb, le-leb, lt-leb}
+use Rattle.sizes.specs.Sizes.{BLOCKS}
 use Rattle.loops.specs.Listing.{times, fold, front}
 use Rattle.loops.proofs.Listings.{times-end, times-not-end, times-none, times-append, fold-front}
 use Rattle.columns.specs.Lists.{padded}
@@ -73,27 +74,27 @@ module _ (up above : ℕ → ℕ) (falls : (k : ℕ) → above k ≤ pred k) (b 
   Known y l = (to y ≡ 0) ⊎ (0 < times (to y) l)
 
   pub record Marks (visited : List Bool) (l : List ℕ) : Type 0 where
-    pub size : length visited ≡ 256
+    pub size : length visited ≡ BLOCKS
     pub met : (y : ℕ) → getD visited y false ≡ true → Known y l
     pub kept : (x : ℕ) → 0 < times x l → getD visited x false ≡ true
 
   -- on the way from the head h, at a node: what was marked on the way leads where the node leads
   pub record Way (visited : List Bool) (l : List ℕ) (h node : ℕ) : Type 0 where
-    pub size : length visited ≡ 256
+    pub size : length visited ≡ BLOCKS
     pub leads : to h ≡ to node
     pub met : (y : ℕ) → getD visited y false ≡ true → Known y l ⊎ ((to y ≡ to node) × (node < y))
     pub kept : (x : ℕ) → 0 < times x l → getD visited x false ≡ true
 
-  marks-none : Marks (replicate 256 false) []
+  marks-none : Marks (replicate BLOCKS false) []
   marks-none =
       record {
-        size = length-replicate 256 false;
+        size = length-replicate BLOCKS false;
         met = λ y e. absurd (unmarked y e);
         kept = λ x h. absurd (omega (arith, times-none x));
       }
     where
-      unmarked : (y : ℕ) → getD (replicate 256 false) y false ≡ true → ⊥
-      unmarked y e = let z : _≡_ {A = ℕ} 0 1 = cc (blank 256 y) in omega arith
+      unmarked : (y : ℕ) → getD (replicate BLOCKS false) y false ≡ true → ⊥
+      unmarked y e = let z : _≡_ {A = ℕ} 0 1 = cc (blank BLOCKS y) in omega arith
         where
           blank : (n k : ℕ) → getD (replicate n false) k false ≡ false
           blank zero k = refl
@@ -121,11 +122,11 @@ module _ (up above : ℕ → ℕ) (falls : (k : ℕ) → above k ≤ pred k) (b 
     pub way-met : getD visited node false ≡ true → (note (to h) l ≡ l) × Marks visited l
     way-met e = settled (⊎-elim (λ k. k) (λ i. absurd (omega (arith, i .1))) (w .met node e))
 
-    module _ (small : node < 256) (fresh : getD visited node false ≡ false) where
+    module _ (small : node < BLOCKS) (fresh : getD visited node false ≡ false) where
       abbrev marked : List Bool
       marked = set visited node true
 
-      marked-size : length marked ≡ 256
+      marked-size : length marked ≡ BLOCKS
       marked-size = simp length-set (w .size)
 
       marked-here : getD marked node false ≡ true
@@ -209,10 +210,10 @@ module _ (up above : ℕ → ℕ) (falls : (k : ℕ) → above k ≤ pred k) (b 
   pub record Between (visited : List Bool) (places : List ℕ) (count k : ℕ) : Type 0 where
     pub marks : Marks up above falls b visited (upto k)
     pub count-is : count ≡ length (upto k)
-    pub places-are : places ≡ padded 256 (upto k)
+    pub places-are : places ≡ padded BLOCKS (upto k)
     pub few : count ≤ k
 
-  pub between-start : Between (replicate 256 false) (replicate 256 0) 0 0
+  pub between-start : Between (replicate BLOCKS false) (replicate BLOCKS 0) 0 0
   unfolding found front fold padded
   between-start = record { marks = marks-none up above falls b; count-is = refl; places-are = refl; few = omega arith }
 
@@ -224,11 +225,11 @@ module _ (up above : ℕ → ℕ) (falls : (k : ℕ) → above k ≤ pred k) (b 
       record {
         marks = subst (Marks up above falls b visited′) (sym e) (r .1);
         count-is = s .count-is ∙ ap length (sym e);
-        places-are = s .places-are ∙ ap (padded 256) (sym e);
+        places-are = s .places-are ∙ ap (padded BLOCKS) (sym e);
         few = omega (arith, s .few);
       }
 
-  pub between-more : (visited visited′ : List Bool) (places : List ℕ) (count k node : ℕ) → k < 256 → Between visited places count k
+  pub between-more : (visited visited′ : List Bool) (places : List ℕ) (count k node : ℕ) → k < BLOCKS → Between visited places count k
       → (note (held up above b (getD heads k 0)) (upto k) ≡ upto k ++ (node ∷ [])) × Marks up above falls b visited′ (upto k ++ (node ∷ []))
       → Between visited′ (set places count node) (count + 1) (k + 1)
   between-more visited visited′ places count k node small s r =
@@ -237,7 +238,7 @@ module _ (up above : ℕ → ℕ) (falls : (k : ℕ) → above k ≤ pred k) (b 
         marks = subst (Marks up above falls b visited′) (sym e) (r .1);
         count-is = omega (arith, s .count-is, length-append (upto k) (node ∷ []), ap length e);
         places-are =
-            rw (s .places-are, s .count-is) (next-padded 256 (upto k) node (omega (arith, s .few, s .count-is)) ∙ ap (padded 256) (sym e));
+            rw (s .places-are, s .count-is) (next-padded BLOCKS (upto k) node (omega (arith, s .few, s .count-is)) ∙ ap (padded BLOCKS) (sym e));
         few = omega (arith, s .few);
       }
 

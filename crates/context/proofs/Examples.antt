@@ -6,6 +6,8 @@ use mathlib.Core.Path.{_≡_, refl}
 use Prim.Native.Nat.{ℕ, _^_}
 use Rattle.loops.specs.Sum.{sum}
 use Rattle.bitfield.specs.Bits.{inWord, has, put}
+use Rattle.layouts.specs.Layout.{RUN, index}
+use Rattle.layouts.specs.Layout as layout
 use Rattle.context.specs.declared.Phase.the-variants.{Prevote, Precommit}
 use Rattle.context.specs.Votes.{bit, voted, weightOf, heardIn}
 
@@ -19,7 +21,7 @@ equivocators : List ℕ
 equivocators = put (0 ∷ 0 ∷ []) (bit Prevote 3)
 
 votes : (voted node Prevote 2 ≡ true) × (voted node Precommit 2 ≡ false) × (voted node Precommit 1 ≡ true) × (voted node Prevote 1 ≡ false)
-unfolding voted has inWord put node
+unfolding voted has inWord put node bit index layout.bit RUN
 votes = (refl, refl, refl, refl)
 
 -- a voter who voted and equivocated counts once; saturation at the largest weight
@@ -28,9 +30,9 @@ weighed : (weightOf weights (voted node Prevote) ≡ 4)
     × (weightOf weights (λ p. voted node Prevote p || voted equivocators Prevote p) ≡ 8)
     × (weightOf weights (λ p. voted node Prevote p || voted node Prevote p) ≡ 4)
     × (weightOf (2 ^ 63 ∷ 0 ∷ 2 ^ 63 ∷ []) (voted node Prevote) ≡ 18446744073709551615)
-unfolding weightOf sum voted has inWord put weights node equivocators
+unfolding weightOf sum voted has inWord put weights node equivocators bit index layout.bit RUN
 weighed = (refl, refl, refl, refl, refl)
 
 counted : (heardIn node Prevote ≡ 2) × (heardIn node Precommit ≡ 1)
-unfolding heardIn sum voted has inWord put node
+unfolding heardIn sum voted has inWord put node bit index layout.bit RUN
 counted = (refl, refl)

@@ -1,3 +1,4 @@
+pub mod Places
 pub mod Votes
 pub mod Sums
 pub mod Contexts

@@ -12,6 +12,7 @@ use lib.Count.{leadingZeros, ones, ones-le, ones-step}
 use lib.Dec.{T, eqb}
 use lib.ListN.{getD}
 use lib.Pow.{shr-shr}
+use Rattle.sizes.specs.Sizes.{VOTERS}
 use Rattle.loops.specs.Sum.{sum, weigh}
 use Rattle.loops.proofs.Tests.{T-true, T-false, and-true, and-false}
 use Rattle.loops.proofs.Sums.{sum-cong, sum-split, sum-pairs, weigh-none, weigh-put-in}
@@ -20,9 +21,15 @@ use Rattle.bitfield.specs.Bits.{inWord, has, every}
 use Rattle.bitfield.proofs.Words.{inWord-zero, inWord-cut}
 use Rattle.bitfield.proofs.Sets.{has-at, has-every}
 use Rattle.bitfield.proofs.Walks.{Low, low}
+use Rattle.layouts.proofs.Uses.{index-alternates}
 use Rattle.context.specs.declared.Phase.{Phase}
 use Rattle.context.specs.declared.Phase.the-variants.{Prevote, Precommit}
 use Rattle.context.specs.Votes.{offset, bit, voted, weightOf, heardIn}
+
+-- the weighing is that of the alternating run
+alternates : (phase : Phase) (p : ℕ) → bit phase p ≡ 2 * p + offset phase
+unfolding bit
+alternates phase p = index-alternates (offset phase) p
 
 -- a word's sum is that of the word without its lowest bit, and that bit's
 pub word-step : (v : ℕ → ℕ) (w : ℕ) → 0 < w → w < 2 ^ 64
@@ -73,11 +80,11 @@ module _ (v : ℕ → ℕ) where
           ≡ cond (has bits (bit phase p)) (v p) 0
       pair Prevote p =
           let place : 2 * p / 2 ≡ p = omega arith in
-          let at : 2 * p + 0 ≡ 2 * p = omega arith in
+          let at : bit Prevote p ≡ 2 * p = omega (arith, alternates Prevote p) in
           rw (taken 0 (omega arith) (2 * p) (omega arith), left-out 0 (omega arith) (2 * p + 1) (λ e. omega arith), place, at) (add-zero (cond (has bits (2 * p)) (v p) 0))
       pair Precommit p =
           let place : (2 * p + 1) / 2 ≡ p = omega arith in
-          rw (left-out 1 (omega arith) (2 * p) (λ e. omega arith), taken 1 (omega arith) (2 * p + 1) (omega arith), place) (zero-add (cond (has bits (2 * p + 1)) (v p) 0))
+          rw (left-out 1 (omega arith) (2 * p) (λ e. omega arith), taken 1 (omega arith) (2 * p + 1) (omega arith), place, alternates Precommit p) (zero-add (cond (has bits (2 * p + 1)) (v p) 0))
 
   -- two words, one after the other
   pub words-sum : (ws : List ℕ)
@@ -131,8 +138,8 @@ ones-word w h = digits-sum 64 w h ∙ sum-cong 64 _ _ (λ b l. digit b l)
 -- two words of one phase: the voters of that phase
 pub phase-words : (v : ℕ → ℕ) (bits : List ℕ) (phase : Phase)
     → weigh 64 (inWord (getD (every (offset phase) bits) 0 0)) (λ b. v (0 + b / 2)) + weigh 64 (inWord (getD (every (offset phase) bits) 1 0)) (λ b. v (32 + b / 2))
-    ≡ weigh 64 (voted bits phase) v
-phase-words v bits phase = words-sum v (every (offset phase) bits) ∙ phase-sum v 64 bits phase
+    ≡ weigh VOTERS (voted bits phase) v
+phase-words v bits phase = words-sum v (every (offset phase) bits) ∙ phase-sum v VOTERS bits phase
 
 pub phase-weight : (weights bits : List ℕ) (phase : Phase)
     → plus (plus 0 (weigh 64 (inWord (getD (every (offset phase) bits) 0 0)) (λ b. getD weights (0 + b / 2) 0))) (weigh 64 (inWord (getD (every (offset phase) bits) 1 0)) (λ b. getD weights (32 + b / 2) 0))
@@ -144,6 +151,6 @@ pub phase-heard : (ws bits : List ℕ) (phase : Phase) → ws ≡ every (offset 
     → ones (getD ws 0 0) + ones (getD ws 1 0) ≡ heardIn bits phase
 unfolding heardIn
 phase-heard ws bits phase e f g =
-    let all : weigh 64 (inWord (getD ws 0 0)) (λ b. 1) + weigh 64 (inWord (getD ws 1 0)) (λ b. 1) ≡ weigh 64 (voted bits phase) (λ p. 1)
+    let all : weigh 64 (inWord (getD ws 0 0)) (λ b. 1) + weigh 64 (inWord (getD ws 1 0)) (λ b. 1) ≡ weigh VOTERS (voted bits phase) (λ p. 1)
     = rw e (phase-words (λ p. 1) bits phase) in
     omega (arith, ones-word (getD ws 0 0) f, ones-word (getD ws 1 0) g)

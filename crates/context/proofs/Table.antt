@@ -4,6 +4,8 @@ use mathlib.Core.Path.{_≡_, refl}
 use Prim.Native.Nat.{ℕ, _^_}
 use Rattle.grandpa.specs.Weight.{threshold}
 use Rattle.bitfield.specs.Bits.{put}
+use Rattle.layouts.specs.Layout.{RUN, index}
+use Rattle.layouts.specs.Layout as layout
 use Rattle.context.specs.declared.Phase.{Phase}
 use Rattle.context.specs.declared.Phase.the-variants.{Prevote, Precommit}
 use Rattle.context.specs.Votes.{bit}
@@ -16,5 +18,5 @@ pub table : (map threshold (1 ∷ 2 ∷ 3 ∷ 4 ∷ 5 ∷ 6 ∷ 7 ∷ 10 ∷ [])
     × (alone Prevote 0 ≡ 2 ^ 63 ∷ 0 ∷ [])
     × (alone Prevote 32 ≡ 0 ∷ 2 ^ 63 ∷ [])
     × (alone Precommit 63 ≡ 0 ∷ 1 ∷ [])
-unfolding put
+unfolding put bit index layout.bit RUN
 table = (refl, refl, refl, refl)

@@ -3,6 +3,7 @@ use mathlib.Core.Bool.{Bool, _||_}
 use mathlib.Core.List.{List}
 use Prim.Native.Nat.{ℕ, min}
 use lib.ListN.{replicate}
+use Rattle.sizes.specs.Sizes.{WORDS}
 use Rattle.weights.specs.Weights.{most}
 use Rattle.voter_set.specs.declared.VoterSet.{VoterSet}
 use Rattle.bitfield.specs.Bits.{put, joined}
@@ -19,7 +20,7 @@ vote phase place = record { bit = record { position = min (bit phase place) most
 
 -- two words without a bit
 abbrev pub none : List ℕ
-none = replicate 2 0
+none = replicate WORDS 0
 
 abbrev pub no-votes : VoteNode
 no-votes = record { bits = none }

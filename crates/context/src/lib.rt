@@ -1,10 +1,12 @@
 // Votes as bits and their weight, equivocators joined in: round/context.rs of finality-grandpa.
 ghost use mathlib.Core.Path.{_≡_};
-ghost use Prim.Native.Nat.{_≤_, min};
+ghost use Prim.Native.Nat.{_<_, min};
 ghost use Rattle.weights.specs.Weights.{most};
-ghost use Rattle.context.specs.Votes.{offset, bit, voted, weightOf};
+ghost use Rattle.sizes.specs.Sizes.{VOTERS, VOTES};
+ghost use Rattle.context.specs.Votes.{offset, bit, phase-at, voted, weightOf};
 ghost use Rattle.context.specs.Context.{vote, no-votes, with-node, with-vote, opened, with-equivocator, counts};
 use bitfield::Bit1;
+use sizes::WORDS;
 use voter_info::VoterInfo;
 use voter_set::VoterSet;
 use weights::VoteWeight;
@@ -19,7 +21,7 @@ pub enum Phase {
 // The voters of a round, and who equivocated.
 pub struct Context {
     pub voters: VoterSet,
-    pub equivocations: [u64; 2],
+    pub equivocations: [u64; WORDS],
 }
 
 // A single vote that can be put into a node.
@@ -29,16 +31,11 @@ pub struct Vote {
 
 // A node on which votes gather. Its weight is always asked in a context, for the equivocators' sake.
 pub struct VoteNode {
-    pub bits: [u64; 2],
+    pub bits: [u64; WORDS],
 }
 
-// The places up to here have bits whose positions fit a machine number.
-const PLACES: usize = 9223372036854775808;
-
-const MOST: usize = 18446744073709551615;
-
 fn offset(phase: Phase) -> usize
-    ensures { λ r. ⌜ (r ≡ offset phase) × (r ≤ 1) ⌝ }
+    ensures { λ r. ⌜ (r ≡ offset phase) × (r < 2) ⌝ }
 {
     match phase {
         Phase::Prevote => 0,
@@ -49,12 +46,25 @@ fn offset(phase: Phase) -> usize
 fn bit_of(place: usize, phase: Phase) -> usize
     ensures { λ r. ⌜ r ≡ min (bit phase place) most ⌝ }
 {
-    let odd = offset(phase);
-    if place < PLACES {
-        place * 2 + odd
-    } else {
-        MOST
+    layouts::bit(offset(phase), place)
+}
+
+// The index of a voter's votes in a phase: its bit.
+pub fn index(place: usize, phase: Phase) -> usize
+    requires { ⌜ place < VOTERS ⌝ }
+    ensures { λ r. ⌜ (r ≡ bit phase place) × (r < VOTES) ⌝ }
+{
+    layouts::index(offset(phase), place)
+}
+
+// The phase of an index.
+pub fn phase_at(at: usize) -> Phase
+    ensures { λ r. ⌜ r ≡ phase-at at ⌝ }
+{
+    if layouts::index_phase(at) == 0 {
+        return Phase::Prevote;
     }
+    Phase::Precommit
 }
 
 impl Vote {

@@ -1,4 +1,4 @@
-// Weighing on a lent column of weights, one for each of the 64 places; places that no voter has hold 0.
+// Weighing on a lent column of weights, one for each of the VOTERS places; places that no voter has hold 0.
 ghost use mathlib.Core.Path.{_≡_};
 ghost use mathlib.Core.Bool.{_||_};
 ghost use Prim.Native.Nat.{_+_, _/_, _≤_};
@@ -8,10 +8,12 @@ ghost use Rattle.weights.specs.Weights.{plus};
 ghost use Rattle.bitfield.specs.Bits.{inWord, every};
 ghost use Rattle.context.specs.Votes.{offset, voted, weightOf, heardIn};
 use crate::Phase;
+use sizes::VOTERS;
+use sizes::WORDS;
 use weights::VoteWeight;
 
 // The bits of one phase.
-fn of_phase(bits: [u64; 2], phase: Phase) -> [u64; 2]
+fn of_phase(bits: [u64; WORDS], phase: Phase) -> [u64; WORDS]
     ensures { λ r. ⌜ r ≡ every (offset phase) bits ⌝ }
 {
     match phase {
@@ -23,7 +25,7 @@ fn of_phase(bits: [u64; 2], phase: Phase) -> [u64; 2]
 // `start` and the weights of the voters whose bits are set in a word of one phase; the word's first voter
 // has place `first`. From one set bit to the next, the last of the word first: what is left after the lowest
 // bit is known at once, and the leading zeros of that bit, which give the voter, are waited for by nothing.
-fn weigh_word(weights: &[u64; 64], word: u64, first: usize, start: u64) -> u64
+fn weigh_word(weights: &[u64; VOTERS], word: u64, first: usize, start: u64) -> u64
     requires { ⌜ first ≤ 32 ⌝ }
     ensures { λ r. ⌜ r ≡ plus start (weigh 64 (inWord word) (λ b. getD (now (weights .entry)) (first + b / 2) 0)) ⌝ }
 {
@@ -41,7 +43,7 @@ fn weigh_word(weights: &[u64; 64], word: u64, first: usize, start: u64) -> u64
 }
 
 // The weight of the voters who voted in a phase.
-pub fn weight(weights: &[u64; 64], bits: [u64; 2], phase: Phase) -> u64
+pub fn weight(weights: &[u64; VOTERS], bits: [u64; WORDS], phase: Phase) -> u64
     ensures { λ r. ⌜ r ≡ weightOf (now (weights .entry)) (voted bits phase) ⌝ }
 {
     let left = of_phase(bits, phase);
@@ -50,7 +52,12 @@ pub fn weight(weights: &[u64; 64], bits: [u64; 2], phase: Phase) -> u64
 }
 
 // The same with the voters of a second set, each once, though both sets may have it.
-pub fn merged_weight(weights: &[u64; 64], bits: [u64; 2], other: [u64; 2], phase: Phase) -> u64
+pub fn merged_weight(
+    weights: &[u64; VOTERS],
+    bits: [u64; WORDS],
+    other: [u64; WORDS],
+    phase: Phase,
+) -> u64
     ensures { λ r. ⌜ r ≡ weightOf (now (weights .entry)) (λ p. voted bits phase p || voted other phase p) ⌝ }
 {
     let both = bitfield::merge(bits, other);
@@ -58,7 +65,7 @@ pub fn merged_weight(weights: &[u64; 64], bits: [u64; 2], other: [u64; 2], phase
 }
 
 // How many voters voted in a phase.
-pub fn heard(bits: [u64; 2], phase: Phase) -> u32
+pub fn heard(bits: [u64; WORDS], phase: Phase) -> u32
     ensures { λ r. ⌜ r ≡ heardIn bits phase ⌝ }
 {
     let left = of_phase(bits, phase);

@@ -9,6 +9,11 @@ use damaging::Kind;
 use damaging::Sums;
 use libc::STDOUT_FILENO;
 use round_words::SIZE;
+use sizes::BLOCKS;
+use sizes::HISTORY;
+use sizes::VOTERS;
+use sizes::VOTES;
+use sizes::WORDS;
 
 mod several;
 
@@ -43,14 +48,14 @@ fn of_voters(good: &[u64; SIZE]) {
         good,
         b"voters.ids",
         round_words::VOTER_IDS,
-        64,
+        VOTERS,
         Kind::Number,
     );
     field(
         good,
         b"voters.weights",
         round_words::WEIGHTS,
-        64,
+        VOTERS,
         Kind::Word,
     );
     field(
@@ -58,7 +63,7 @@ fn of_voters(good: &[u64; SIZE]) {
         b"voters.count",
         round_words::VOTER_COUNT,
         1,
-        Kind::Count(64),
+        Kind::Count(VOTERS as u64),
     );
     field(
         good,
@@ -72,25 +77,25 @@ fn of_voters(good: &[u64; SIZE]) {
         good,
         b"equivocations",
         round_words::EQUIVOCATIONS,
-        2,
+        WORDS,
         Kind::Word,
     );
 }
 
 fn of_blocks(good: &[u64; SIZE]) {
-    field(good, b"table.ids", round_words::IDS, 256, Kind::Number);
+    field(good, b"table.ids", round_words::IDS, BLOCKS, Kind::Number);
     field(
         good,
         b"table.numbers",
         round_words::NUMBERS,
-        256,
+        BLOCKS,
         Kind::Number,
     );
     field(
         good,
         b"table.parents",
         round_words::PARENTS,
-        256,
+        BLOCKS,
         Kind::Byte,
     );
     field(
@@ -98,71 +103,89 @@ fn of_blocks(good: &[u64; SIZE]) {
         b"table.count",
         round_words::BLOCK_COUNT,
         1,
-        Kind::Count(256),
+        Kind::Count(BLOCKS as u64),
     );
     field(good, b"graph.base", round_words::BASE, 1, Kind::Byte);
-    field(good, b"graph.used", round_words::USED, 256, Kind::Flag);
-    field(good, b"graph.above", round_words::ABOVE, 256, Kind::Byte);
+    field(good, b"graph.used", round_words::USED, BLOCKS, Kind::Flag);
+    field(good, b"graph.above", round_words::ABOVE, BLOCKS, Kind::Byte);
 }
 
 fn of_lists(good: &[u64; SIZE]) {
-    field(good, b"graph.rows", round_words::ROWS, 512, Kind::Word);
-    field(good, b"graph.order", round_words::ORDER, 256, Kind::Byte);
+    field(
+        good,
+        b"graph.rows",
+        round_words::ROWS,
+        WORDS * BLOCKS,
+        Kind::Word,
+    );
+    field(good, b"graph.order", round_words::ORDER, BLOCKS, Kind::Byte);
     field(
         good,
         b"graph.listed",
         round_words::LISTED,
         1,
-        Kind::Count(256),
+        Kind::Count(BLOCKS as u64),
     );
-    field(good, b"graph.heads", round_words::HEADS, 256, Kind::Byte);
-    field(good, b"graph.tips", round_words::TIPS, 1, Kind::Count(256));
-    field(good, b"votes.times", round_words::TIMES, 128, Kind::Byte);
-    field(good, b"votes.places", round_words::PLACES, 128, Kind::Byte);
+    field(good, b"graph.heads", round_words::HEADS, BLOCKS, Kind::Byte);
+    field(
+        good,
+        b"graph.tips",
+        round_words::TIPS,
+        1,
+        Kind::Count(BLOCKS as u64),
+    );
+    field(good, b"votes.times", round_words::COUNTS, VOTES, Kind::Byte);
+    field(
+        good,
+        b"votes.places",
+        round_words::FIRST_BLOCK,
+        VOTES,
+        Kind::Byte,
+    );
 }
 
 fn of_votes(good: &[u64; SIZE]) {
     field(
         good,
         b"votes.signatures",
-        round_words::SIGNATURES,
-        128,
+        round_words::FIRST_SIGNATURE,
+        VOTES,
         Kind::Word,
     );
     field(
         good,
         b"votes.targets",
-        round_words::TARGETS,
-        128,
+        round_words::SECOND_TARGET,
+        VOTES,
         Kind::Number,
     );
     field(
         good,
         b"votes.numbers",
-        round_words::TARGET_NUMBERS,
-        128,
+        round_words::SECOND_NUMBER,
+        VOTES,
         Kind::Number,
     );
     field(
         good,
         b"votes.seconds",
-        round_words::SECONDS,
-        128,
+        round_words::SECOND_SIGNATURE,
+        VOTES,
         Kind::Word,
     );
     field(
         good,
         b"history.entries",
         round_words::ENTRIES,
-        256,
-        Kind::Byte,
+        HISTORY,
+        Kind::Entry,
     );
     field(
         good,
         b"history.count",
         round_words::ENTRY_COUNT,
         1,
-        Kind::Count(256),
+        Kind::Count(HISTORY as u64),
     );
     field(
         good,

@@ -5,8 +5,10 @@ use crate::say_sums;
 use round_words::ABOVE;
 use round_words::BASE;
 use round_words::BLOCK_COUNT;
+use round_words::COUNTS;
 use round_words::ENTRIES;
 use round_words::ENTRY_COUNT;
+use round_words::FIRST_BLOCK;
 use round_words::HEADS;
 use round_words::HEARD_PRECOMMIT;
 use round_words::IDS;
@@ -14,14 +16,12 @@ use round_words::LISTED;
 use round_words::NUMBERS;
 use round_words::ORDER;
 use round_words::PARENTS;
-use round_words::PLACES;
 use round_words::ROWS;
-use round_words::SECONDS;
+use round_words::SECOND_NUMBER;
+use round_words::SECOND_SIGNATURE;
+use round_words::SECOND_TARGET;
 use round_words::SIZE;
-use round_words::TARGET_NUMBERS;
-use round_words::TARGETS;
 use round_words::THRESHOLD;
-use round_words::TIMES;
 use round_words::TIPS;
 use round_words::TOTAL;
 use round_words::USED;
@@ -78,9 +78,9 @@ const PARENT_THAT_COMES_LATER: [usize; 12] = [
 ];
 
 const VOTE_FOR_A_BLOCK_PAST_THE_TABLE: [usize; 28] = [
-    TIMES + 7,
+    COUNTS + 7,
     1,
-    PLACES + 7,
+    FIRST_BLOCK + 7,
     9,
     USED + 9,
     1,
@@ -117,7 +117,7 @@ const HEAD_THAT_IS_MISSING: [usize; 4] = [HEADS + 1, 0, TIPS, 1];
 const HEAD_THAT_LISTS_OTHERS: [usize; 8] = [HEADS, 1, HEADS + 1, 2, HEADS + 2, 3, TIPS, 3];
 
 const VOTE_OF_NO_VOTER: [usize; 8] = [
-    TIMES + 8,
+    COUNTS + 8,
     1,
     ROWS,
     18338657682652659712,
@@ -180,18 +180,18 @@ const HISTORY_IN_ANOTHER_ORDER: [usize; 4] = [ENTRIES, 4, ENTRIES + 1, 0];
 const SECOND_PAIR_BEFORE_THE_FIRST: [usize; 4] = [ENTRIES + 6, 11, ENTRIES + 7, 10];
 
 const SECOND_PAIR_EQUAL_TO_THE_FIRST: [usize; 6] = [
-    TARGETS + 5,
+    SECOND_TARGET + 5,
     11,
-    TARGET_NUMBERS + 5,
+    SECOND_NUMBER + 5,
     1,
-    SECONDS + 5,
+    SECOND_SIGNATURE + 5,
     0,
 ];
 
 const VOTE_BESIDE_THE_BASE: [usize; 22] = [
-    TIMES + 15,
+    COUNTS + 15,
     1,
-    PLACES + 15,
+    FIRST_BLOCK + 15,
     49,
     USED + 49,
     1,
@@ -214,9 +214,9 @@ const VOTE_BESIDE_THE_BASE: [usize; 22] = [
 ];
 
 const VOTE_BESIDE_THE_BASE_NOT_HEARD: [usize; 20] = [
-    TIMES + 15,
+    COUNTS + 15,
     1,
-    PLACES + 15,
+    FIRST_BLOCK + 15,
     49,
     USED + 49,
     1,

@@ -7,6 +7,7 @@ use round_words::SIZE;
 // What a field holds: numbers of some width, a count with its size, flags, an index of history, a stored block.
 pub enum Kind {
     Byte,
+    Entry,
     Number,
     Word,
     Count(u64),
@@ -19,6 +20,7 @@ pub enum Kind {
 fn ways(kind: Kind) -> usize {
     match kind {
         Kind::Byte => 3,
+        Kind::Entry => 3,
         Kind::Number => 3,
         Kind::Word => 3,
         Kind::Count(size) => 6,
@@ -34,6 +36,14 @@ fn byte(x: u64, way: usize) -> u64 {
         0 => (x % 256 + 1) % 256,
         1 => (x % 256 + 255) % 256,
         _ => (x % 256 + 128) % 256,
+    }
+}
+
+fn entry(x: u64, way: usize) -> u64 {
+    match way {
+        0 => (x % 65536 + 1) % 65536,
+        1 => (x % 65536 + 65535) % 65536,
+        _ => (x % 65536 + 32768) % 65536,
     }
 }
 
@@ -79,6 +89,7 @@ fn index(way: usize) -> u64 {
 fn value(kind: Kind, x: u64, way: usize) -> u64 {
     match kind {
         Kind::Byte => byte(x, way),
+        Kind::Entry => entry(x, way),
         Kind::Number => number(x, way),
         Kind::Word => word(x, way),
         Kind::Count(size) => count(x, size, way),

@@ -3,7 +3,7 @@ use mathlib.Core.Bool.{cond}
 use mathlib.Core.List.{List, [], _∷_, _++_}
 use mathlib.Core.Option.{Option, none, some}
 use mathlib.Core.Path.{_≡_, refl, sym, ap, subst, _∙_}
-use Prim.Native.Nat.{ℕ, _+_, _*_, _/_, _<_}
+use Prim.Native.Nat.{ℕ, _+_, _*_, _<_}
 use native.Mathlib.Omega.{arith}
 use lib.Dec.{T, ltb, ltb→lt}
 use lib.ListN.{length, drop, length-append}
@@ -16,7 +16,7 @@ use Rattle.nodes.specs.declared.Found.{Found}
 use Rattle.nodes.specs.declared.Found.the-variants.{At, Nothing}
 use Rattle.listing.specs.declared.Wanted.the-variants as wanted
 use Rattle.listing.specs.declared.Written.the-variants as list
-use Rattle.listing.specs.Written.{phase-of, pair-of, Lent, in-a-row, record-of, written}
+use Rattle.listing.specs.Written.{phase-of, voter-of, pair-of, Lent, in-a-row, record-of, written}
 use Rattle.nodes.specs.Nodes.{col}
 use Rattle.records.proofs.Bytes.{length-vote}
 use Rattle.round.specs.declared.Round.{Round}
@@ -117,7 +117,7 @@ module _ (r : Round) (out : List ℕ) where
 
   records-long : (e : ℕ) → length (records-are e) ≡ 22
   unfolding record-of
-  records-long e = length-vote (phase-of e) (col (r .context .voters .ids) (e / 4)) (pair-of (r .votes) (r .table .ids) (r .table .numbers) e)
+  records-long e = length-vote (phase-of e) (col (r .context .voters .ids) (voter-of e)) (pair-of (r .votes) (r .table .ids) (r .table .numbers) e)
 
   pub votes-lists : (phase : Phase) → Lists r (List-due r (entries-of (wanted.Of phase) r) out) out (votes-of phase r out) (listed (wanted.Of phase) r out)
   unfolding votes-of listed records

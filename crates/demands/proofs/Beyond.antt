@@ -27,13 +27,15 @@ use Rattle.blocks.specs.Table.{Stands}
 use Rattle.blocks.specs.Add.{place-of, append, step}
 use Rattle.block_shape.specs.Shape.{sized, count-fits, is-child, is-tree, are-distinct, clear-at, is-clear, are-clear, tabled}
 use Rattle.block_table.specs.Add as blocks
+use Rattle.layouts.specs.Layout as layout
 use Rattle.context.specs.declared.Phase.{Phase}
 use Rattle.context.specs.declared.Phase.the-variants.{Prevote, Precommit}
+use Rattle.context.specs.Votes.{bit}
 use Rattle.nodes.specs.Nodes.{col}
 use Rattle.tracker.specs.Recorded.{recorded, cast}
 use Rattle.judging.specs.Judge.{judge-first, judge}
-use Rattle.importing.specs.Import.{Frame, Held, import}
-use Rattle.held_laws.specs.Reached.{opened-held}
+use Rattle.importing.specs.Import as parts
+use Rattle.importing.specs.Import.{Frame, Held, import, opened-held}
 use Rattle.round.specs.declared.Round.{Round}
 use Rattle.round.specs.declared.Done.the-variants.{Yes}
 use Rattle.round.specs.declared.Told.the-variants as block
@@ -58,7 +60,7 @@ abbrev pub tree : BlockTable
 tree = blocks.add (blocks.add (blocks.add (blocks.add (blocks.opened 10 0) 11 10 .table) 12 11 .table) 13 11 .table) 14 12 .table
 
 abbrev pub stage : Frame
-stage = record { number = 7; voters = four; table = tree; base = 0 }
+stage = parts.framed 7 four tree 0
 
 abbrev pub vote : Phase → ℕ → ℕ → ℕ → Ballot
 vote phase signer target number = record { phase = phase; signer = signer; pair = record { target = target; number = number; signature = 0 } }
@@ -91,7 +93,7 @@ says g e f c = record { ghost = g; finalized = f; estimate = e; completable = c 
 pub computed : (told-of stage then ≡ says (some 2) (some 1) (some 1) true) × (told-of stage now ≡ says (some 2) (some 2) (some 2) false)
     × (twice-weight Prevote stage then ≡ 0) × (twice-weight Prevote stage now ≡ 0) × (twice-weight Precommit stage now ≡ 2)
 unfolding
-    told told-from ghost-of highest-of first-of search-up finalized-of estimate-of completable-of below within sum all any taken import judge
+    told told-from ghost-of highest-of first-of search-up finalized-of estimate-of completable-of below within sum all any taken layout.RUN layout.bit layout.index bit import judge
     judge-first look-up info recorded cast place-of columns.find columns.contains first set.new voters enter padded sized count-fits is-child
     is-tree are-distinct clear-at is-clear are-clear tabled blocks.opened append step blocks.add
 computed = (refl, refl, refl, refl, refl)

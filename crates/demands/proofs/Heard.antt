@@ -4,6 +4,7 @@ use mathlib.Core.Path.{_≡_, refl, ap, _∙_}
 use Prim.Native.Nat.{ℕ, _+_, _-_}
 use native.Mathlib.Omega.{arith}
 use lib.Dec.{T}
+use Rattle.sizes.specs.Sizes.{VOTERS}
 use Rattle.loops.specs.Sum.{sum}
 use Rattle.loops.proofs.Tests.{true-T}
 use Rattle.loops.proofs.Sums.{sum-cong, sum-short}
@@ -50,11 +51,11 @@ module _ (r : Round) (fits : Fits r) (t : Keeps r) where
   counted : (phase : Phase) → heard-in (r .graph) phase ≡ heard-voters r phase
   unfolding heard-in heardIn
   counted phase =
-      let e : 64 ≡ r .context .voters .count + (64 - r .context .voters .count) = omega (arith, kept .good .few) in
-      sum-cong 64 (λ p. cond (voted (row (columns (r .graph) .rows) (r .graph .base)) phase p) 1 0) (λ p. cond (spoke (votes-of r phase p)) 1 0)
+      let e : VOTERS ≡ r .context .voters .count + (VOTERS - r .context .voters .count) = omega (arith, kept .good .few) in
+      sum-cong VOTERS (λ p. cond (voted (row (columns (r .graph) .rows) (r .graph .base)) phase p) 1 0) (λ p. cond (spoke (votes-of r phase p)) 1 0)
       (λ p h. ap (λ (b : Bool). cond b 1 0) (root-voted phase p))
       ∙ ap (λ (n : ℕ). sum n (λ p. cond (spoke (votes-of r phase p)) 1 0)) e
-      ∙ sum-short (r .context .voters .count) (64 - r .context .voters .count) (λ p. cond (spoke (votes-of r phase p)) 1 0)
+      ∙ sum-short (r .context .voters .count) (VOTERS - r .context .voters .count) (λ p. cond (spoke (votes-of r phase p)) 1 0)
       (λ p h. ap (λ (v : Vote). cond (spoke v) 1 0) (faith .no-voter phase p h))
 
   pub prevotes-counted : prevote-participation r ≡ Heard (heard-weight r Prevote) (heard-voters r Prevote)

@@ -20,16 +20,17 @@ use Rattle.voter_set.specs.Voters as set
 use Rattle.blocks.specs.Add.{place-of, append, step}
 use Rattle.block_shape.specs.Shape.{sized, count-fits, is-child, is-tree, are-distinct, clear-at, is-clear, are-clear, tabled}
 use Rattle.block_table.specs.Add as blocks
+use Rattle.layouts.specs.Layout as layout
 use Rattle.context.specs.declared.Phase.{Phase}
 use Rattle.context.specs.declared.Phase.the-variants.{Prevote}
+use Rattle.context.specs.Votes.{bit}
 use Rattle.tracker.specs.declared.Pair.{Pair}
 use Rattle.tracker.specs.declared.VoteMultiplicity.the-variants as recorded
 use Rattle.tracker.specs.Recorded.{recorded, cast}
 use Rattle.judging.specs.declared.ImportResult.{ImportResult}
 use Rattle.judging.specs.declared.ImportResult.the-variants as vote
 use Rattle.judging.specs.Judge.{judge-first, judge}
-use Rattle.importing.specs.Import.{Frame, Held, import}
-use Rattle.held_laws.specs.Reached.{opened-held}
+use Rattle.importing.specs.Import.{Frame, Held, import, opened-held}
 use Rattle.round.specs.declared.Round.{Round}
 use Rattle.round.specs.declared.Imported.{Imported}
 use Rattle.round.specs.declared.Told.{Told}
@@ -94,7 +95,7 @@ once = taken (one ∷ []) stage (opened-held 0)
 counted : (import stage Prevote 1 (one .pair) (opened-held 0) .answer ≡ vote.Counted) × (import stage Prevote 2 (two .pair) once .answer ≡ vote.Counted)
     × (once .count ≡ 1)
 unfolding
-    below within sum all any taken import judge judge-first look-up info recorded cast place-of columns.find columns.contains first set.new voters
+    below within sum all any taken layout.RUN layout.bit layout.index bit import judge judge-first look-up info recorded cast place-of columns.find columns.contains first set.new voters
     enter padded sized count-fits is-child is-tree are-distinct clear-at is-clear are-clear tabled blocks.opened append step blocks.add
 counted = (refl, refl, refl)
 

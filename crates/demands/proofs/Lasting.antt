@@ -37,14 +37,14 @@ use Rattle.judging.proofs.Voters.{position-inside}
 use Rattle.answer_laws.specs.Faithful.{voters, table}
 use Rattle.answer_laws.specs.Seats.{Seated}
 use Rattle.answer_laws.proofs.Stays.{within-stored}
-use Rattle.importing.specs.Import.{Frame, Held, verdict, apply, import}
+use Rattle.importing.specs.Import.{Frame, Held, opened-held, verdict, apply, import}
 use Rattle.held_laws.specs.Kept.{setting, Kept}
 use Rattle.held_laws.specs.Reached as state
-use Rattle.held_laws.specs.Reached.{Comes, with-table, opened-held}
+use Rattle.held_laws.specs.Reached.{Comes}
 use Rattle.held_laws.specs.Answered.{as-option, answered}
 use Rattle.held_laws.proofs.Parts.{kept-faithful}
 use Rattle.held_laws.proofs.Adds.{step-ids}
-use Rattle.held_laws.proofs.Reaches.{comes-kept}
+use Rattle.held_laws.proofs.Reaches.{comes-kept, comes-voters}
 use Rattle.held_laws.proofs.Tells.{reached-tells}
 use Rattle.held_laws.proofs.Onward.{comes-grown}
 use Rattle.held_laws.proofs.Answered.{answered-stored}
@@ -66,31 +66,32 @@ abbrev pub nothing-told : Told
 nothing-told = record { ghost = none; finalized = none; estimate = none; completable = false }
 
 module _ (f : Frame) (nobody : f .voters .count ≡ 0) where
-  no-vote : (t : BlockTable) (i : Held) (phase : Phase) (signer : ℕ) (p : Pair) → import (with-table f t) phase signer p i .held ≡ i
+  no-vote : (i : Held) (phase : Phase) (signer : ℕ) (p : Pair) → import f phase signer p i .held ≡ i
   unfolding import judge
-  no-vote t i phase signer p = go (look-up (f .voters .ids) (f .voters .weights) (f .voters .count) signer) refl
+  no-vote i phase signer p = go (look-up (f .voters .ids) (f .voters .weights) (f .voters .count) signer) refl
     where
       go : (l : Lookup) → look-up (f .voters .ids) (f .voters .weights) (f .voters .count) signer ≡ l
-          → apply (with-table f t) phase signer p i (verdict (with-table f t) phase signer p i) .held ≡ i
+          → apply f phase signer p i (verdict f phase signer p i) .held ≡ i
       go (Voter v) e = absurd (omega (arith, nobody, position-inside (f .voters .ids) (f .voters .weights) (f .voters .count) signer v e))
       go Outside e = rw e
 
-  comes-silent : (h : Held) → answered (h .answers) ≡ nothing-told → (t : BlockTable) (i : Held) → Comes f h t i → answered (i .answers) ≡ nothing-told
-  comes-silent h e _ _ state.here = e
-  comes-silent h e t _ (state.voted _ i c phase signer p) =
-      ap (λ (x : Held). answered (x .answers)) (no-vote t i phase signer p) ∙ comes-silent h e t i c
-  comes-silent h e _ i (state.added t _ c id parent) = comes-silent h e t i c
-  comes-silent h e t _ (state.asked _ i c) = comes-silent h e t i c
+module _ (f : Frame) (nobody : f .voters .count ≡ 0) (h : Held) (e : answered (h .answers) ≡ nothing-told) where
+  comes-silent : (g : Frame) (i : Held) → Comes f h g i → answered (i .answers) ≡ nothing-told
+  comes-silent _ _ state.here = e
+  comes-silent g _ (state.voted _ i c phase signer p) =
+      ap (λ (x : Held). answered (x .answers)) (no-vote g (ap (λ (v : VoterSet). v .count) (comes-voters f h g i c) ∙ nobody) i phase signer p)
+      ∙ comes-silent g i c
+  comes-silent _ i (state.added g _ c id parent) = comes-silent g i c
+  comes-silent g _ (state.asked _ i c) = comes-silent g i c
 
 -- Ids stay.
-comes-ids : (f : Frame) (h : Held) → Kept f h → (t : BlockTable) (i : Held) → Comes f h t i → (x : ℕ) → x < f .table .count
-    → col (f .table .ids) x ≡ col (t .ids) x
+comes-ids : (f : Frame) (h : Held) → Kept f h → (g : Frame) (i : Held) → Comes f h g i → (x : ℕ) → x < f .table .count
+    → col (f .table .ids) x ≡ col (g .table .ids) x
 comes-ids f h k _ _ state.here x l = refl
-comes-ids f h k t _ (state.voted _ i c phase signer p) x l = comes-ids f h k t i c x l
-comes-ids f h k _ i (state.added t _ c id parent) x l =
-    comes-ids f h k t i c x l
-    ∙ step-ids (with-table f t) i (comes-kept f h k t i c) id parent x (omega (arith, l, comes-grown f h k t i c .more))
-comes-ids f h k t _ (state.asked _ i c) x l = comes-ids f h k t i c x l
+comes-ids f h k g _ (state.voted _ i c phase signer p) x l = comes-ids f h k g i c x l
+comes-ids f h k _ i (state.added g _ c id parent) x l =
+    comes-ids f h k g i c x l ∙ step-ids g i (comes-kept f h k g i c) id parent x (omega (arith, l, comes-grown f h k g i c .more))
+comes-ids f h k g _ (state.asked _ i c) x l = comes-ids f h k g i c x l
 
 -- A completable round has an estimate.
 settled-some : (b : Bool) (g : ℕ) (childless : Bool) (o : Option ℕ) → T (b && settled-at g childless o) → cond b o (some g) ≡ none → ⊥
@@ -120,8 +121,10 @@ module _ (r : Round) (reached : Reached r) where
   pub silent : r .context .voters .total ≡ 0 → answers-of r ≡ nothing-told
   silent e =
       let x = reached-state r reached in
-      comes-silent (with-table (frame r) (x .table)) (none-there (ℕ-discrete (r .context .voters .count) 0)) (opened-held (r .graph .base)) refl (r .table) (held r)
-      (x .calls)
+      let start = opened-held (x .start .base) in
+      comes-silent (x .start)
+      (ap (λ (v : VoterSet). v .count) (sym (comes-voters (x .start) start (frame r) (held r) (x .calls))) ∙ none-there (ℕ-discrete (r .context .voters .count) 0))
+      start refl (frame r) (held r) (x .calls)
     where
       none-there : Dec (r .context .voters .count ≡ 0) → r .context .voters .count ≡ 0
       none-there (yes q) = q
@@ -216,7 +219,7 @@ module _ (r : Round) (reached : Reached r) (s : Round) (later : Later r s) where
 
   same-ids : (x : ℕ) → x < r .table .count → col (r .table .ids) x ≡ col (s .table .ids) x
   same-ids =
-      comes-ids (frame r) (held r) (kept r reached) (s .table) (held s)
+      comes-ids (frame r) (held r) (kept r reached) (frame s) (held s)
       (later-arrived r (reached-fits r reached) (keeps r reached) s later .comes)
 
   blocks-stay : Blocks-stay r s

@@ -6,8 +6,9 @@ use mathlib.Core.Logic.{_≢_}
 use Prim.Native.Nat.{ℕ, _<_}
 use native.Mathlib.Omega.{arith}
 use lib.Dec.{T}
-use lib.ListN.{set, getD}
+use lib.ListN.{getD}
 use lib.Seq.{getD-set-same, getD-set-other}
+use Rattle.sizes.specs.Sizes.{VOTES}
 use Rattle.loops.proofs.Tests.{true-T, false-not, decT, left-of, right-of}
 use Rattle.voter_info.specs.declared.VoterInfo.{VoterInfo}
 use Rattle.voter_info.specs.declared.Lookup.the-variants.{Voter}
@@ -19,15 +20,15 @@ use Rattle.blocks.specs.Table.{Stands}
 use Rattle.grandpa.specs.Tree.{below}
 use Rattle.vote_graph.specs.Shape.{is-graph}
 use Rattle.context.specs.declared.Phase.{Phase}
-use Rattle.context.specs.declared.Phase.the-variants.{Prevote, Precommit}
 use Rattle.context.specs.Votes.{bit}
+use Rattle.context.proofs.Places.{bit-one, bit-few}
 use Rattle.nodes.specs.Nodes.{col}
 use Rattle.tracker.specs.declared.Votes.{Votes}
 use Rattle.tracker.specs.declared.Pair.{Pair}
 use Rattle.tracker.specs.declared.VoteMultiplicity.{VoteMultiplicity}
 use Rattle.tracker.specs.declared.VoteMultiplicity.the-variants as recorded
 use Rattle.tracker.specs.Recorded.{same, first-pair, recorded}
-use Rattle.vote_shape_laws.specs.Recorded.{Wide}
+use Rattle.tracker.specs.Votes.{Wide, with-first, with-second}
 use Rattle.judging.specs.declared.Equivocation.{Equivocation}
 use Rattle.judging.specs.declared.ImportResult.{ImportResult}
 use Rattle.judging.specs.declared.ImportResult.the-variants as vote
@@ -45,76 +46,46 @@ use Rattle.two_views.proofs.Rounds.{voters-good}
 use Rattle.demands.specs.First.{Keeps, Voter-at, recorded-of, First-vote, Rule, refused, stranger, first, again, first-again, second-again, second, third, Records}
 use Rattle.demands.proofs.Voting.{judged, judged-by, aimed-first, answer-rule}
 
--- one bit for each voter and phase
-bit-one : (i j : Phase) (k m : ℕ) → bit i k ≡ bit j m → (i ≡ j) × (k ≡ m)
-bit-one Prevote Prevote k m e = (refl, omega arith)
-bit-one Prevote Precommit k m e = absurd (omega arith)
-bit-one Precommit Prevote k m e = absurd (omega arith)
-bit-one Precommit Precommit k m e = (refl, omega arith)
-
-bit-few : (phase : Phase) (k : ℕ) → k < 64 → bit phase k < 128
-bit-few Prevote k h = omega arith
-bit-few Precommit k h = omega arith
-
-module _ (v : Votes) (ids heights : List ℕ) (j : ℕ) where
-  abbrev after-first : ℕ → ℕ → Votes
-  after-first b signature =
-      record {
-        times = set (v .times) j 1;
-        places = set (v .places) j b;
-        signatures = set (v .signatures) j signature;
-        targets = v .targets;
-        numbers = v .numbers;
-        seconds = v .seconds;
-      }
-
+module _ (v : Votes) (ids numbers : List ℕ) (j : ℕ) where
   abbrev after-second : Pair → Votes
-  after-second p =
-      record {
-        times = set (v .times) j 2;
-        places = v .places;
-        signatures = v .signatures;
-        targets = set (v .targets) j (p .target);
-        numbers = set (v .numbers) j (p .number);
-        seconds = set (v .seconds) j (p .signature);
-      }
+  after-second p = with-second v j (p .target) (p .number) (p .signature)
 
-  module _ (w : Wide v) (few : j < 128) where
+  module _ (w : Wide v) (few : j < VOTES) where
     first-here : (b signature : ℕ)
-        → recorded (after-first b signature) ids heights j ≡ recorded.Single (record { target = col ids b; number = col heights b; signature = signature })
+        → recorded (with-first v j b signature) ids numbers j ≡ recorded.Single (record { target = col ids b; number = col numbers b; signature = signature })
     unfolding recorded
     first-here b signature =
         rw (
-          getD-set-same (v .times) j 1 0 (omega (arith, w .times-size)),
-          getD-set-same (v .places) j b 0 (omega (arith, w .places-size)),
-          getD-set-same (v .signatures) j signature 0 (omega (arith, w .signatures-size)),
+          getD-set-same (v .counts) j 1 0 (omega (arith, w .counts-size)),
+          getD-set-same (v .«first_block») j b 0 (omega (arith, w .first-block-size)),
+          getD-set-same (v .«first_signature») j signature 0 (omega (arith, w .first-signature-size)),
         )
 
     second-here : (p : Pair)
-        → recorded (after-second p) ids heights j ≡ recorded.Equivocated (first-pair (v .places) (v .signatures) ids heights j) p
+        → recorded (after-second p) ids numbers j ≡ recorded.Equivocated (first-pair (v .«first_block») (v .«first_signature») ids numbers j) p
     unfolding recorded
     second-here p =
         rw (
-          getD-set-same (v .times) j 2 0 (omega (arith, w .times-size)),
-          getD-set-same (v .targets) j (p .target) 0 (omega (arith, w .targets-size)),
-          getD-set-same (v .numbers) j (p .number) 0 (omega (arith, w .numbers-size)),
-          getD-set-same (v .seconds) j (p .signature) 0 (omega (arith, w .seconds-size)),
+          getD-set-same (v .counts) j 2 0 (omega (arith, w .counts-size)),
+          getD-set-same (v .«second_target») j (p .target) 0 (omega (arith, w .second-target-size)),
+          getD-set-same (v .«second_number») j (p .number) 0 (omega (arith, w .second-number-size)),
+          getD-set-same (v .«second_signature») j (p .signature) 0 (omega (arith, w .second-signature-size)),
         )
 
   module _ (i : ℕ) (n : i ≢ j) where
-    first-there : (b signature : ℕ) → recorded (after-first b signature) ids heights i ≡ recorded v ids heights i
+    first-there : (b signature : ℕ) → recorded (with-first v j b signature) ids numbers i ≡ recorded v ids numbers i
     unfolding recorded
     first-there b signature =
-        rw (getD-set-other (v .times) j i 1 0 n, getD-set-other (v .places) j i b 0 n, getD-set-other (v .signatures) j i signature 0 n)
+        rw (getD-set-other (v .counts) j i 1 0 n, getD-set-other (v .«first_block») j i b 0 n, getD-set-other (v .«first_signature») j i signature 0 n)
 
-    second-there : (p : Pair) → recorded (after-second p) ids heights i ≡ recorded v ids heights i
+    second-there : (p : Pair) → recorded (after-second p) ids numbers i ≡ recorded v ids numbers i
     unfolding recorded
     second-there p =
         rw (
-          getD-set-other (v .times) j i 2 0 n,
-          getD-set-other (v .targets) j i (p .target) 0 n,
-          getD-set-other (v .numbers) j i (p .number) 0 n,
-          getD-set-other (v .seconds) j i (p .signature) 0 n,
+          getD-set-other (v .counts) j i 2 0 n,
+          getD-set-other (v .«second_target») j i (p .target) 0 n,
+          getD-set-other (v .«second_number») j i (p .number) 0 n,
+          getD-set-other (v .«second_signature») j i (p .signature) 0 n,
         )
 
 module _ (r : Round) (phase : Phase) (signer : ℕ) (p : Pair) where
@@ -168,7 +139,7 @@ module _ (r : Round) (phase : Phase) (signer : ℕ) (p : Pair) where
     unfolding import-vote imported import
     recorded-next d e i k = rw (true-T (shaped r) t) (ap (λ (x : Verdict). recorded-in (next x) i k) e)
 
-    few : (k : ℕ) → Voter-at r signer k → bit phase k < 128
+    few : (k : ℕ) → Voter-at r signer k → bit phase k < VOTES
     few k a = bit-few phase k (omega (arith, a .inside, voters-good r t .few))
 
     the-place : (j k : ℕ) → Voter-at r signer j → Voter-at r signer k → j ≡ k

@@ -11,6 +11,7 @@ use native.Mathlib.Omega.{arith}
 use lib.Dec.{T, eqb, ltb, eqb→eq, eqb-refl, T-not, not-T, ltb→lt}
 use lib.ListN.{length}
 use borrow.Author.Tests.{eq-eqb, ne-eqb, eqb-true}
+use Rattle.sizes.specs.Sizes.{WORDS, BLOCKS}
 use Rattle.loops.specs.Listing.{times, keep, some-of}
 use Rattle.loops.proofs.Tests.{by-test, both, left-of, right-of, decT, true-T, false-T, false-not}
 use Rattle.loops.proofs.Listings.{times-here, times-past, times-none, times-more, times-append, times-keep, keep-append, keep-every, kept-in, in-kept, some-at, some-intro}
@@ -250,8 +251,8 @@ module _ (up : ℕ → ℕ) (falls : (k : ℕ) → up k ≤ pred k) (bits : ℕ 
       in-both x i = ⊎-elim (λ j. inl j) (λ j. inr (head-in x j)) (two x seen i)
 
 module _ (up ids : ℕ → ℕ) (falls : (k : ℕ) → up k ≤ pred k) (base count : ℕ) (cast : ℕ → Vote) (g : Graph) (shape : Shape up ids base count cast g)
-    (ok : List ℕ → Bool) (mono : (v w : List ℕ) → length v ≡ 2 → length w ≡ 2 → ((j : ℕ) → T (has v j) → T (has w j)) → T (ok v) → T (ok w))
-    (small : count ≤ 256) where
+    (ok : List ℕ → Bool) (mono : (v w : List ℕ) → length v ≡ WORDS → length w ≡ WORDS → ((j : ℕ) → T (has v j) → T (has w j)) → T (ok v) → T (ok w))
+    (small : count ≤ BLOCKS) where
   abbrev passing : ℕ → Bool
   passing b = ok (tally up g b)
 
@@ -263,10 +264,10 @@ module _ (up ids : ℕ → ℕ) (falls : (k : ℕ) → up k ≤ pred k) (base co
     pub noded : (r ≡ b) ⊎ ((y : ℕ) × T (g .used y) × T (below up r y))
     pub childless : (c y : ℕ) → T (child up r c) → T (g .used y) → T (below up c y) → T (ok (tally up g c)) → ⊥
 
-  wide : (b : ℕ) → length (tally up g b) ≡ 2
+  wide : (b : ℕ) → length (tally up g b) ≡ WORDS
   unfolding tally
   wide b =
-      by-test (λ (v : List ℕ). length v ≡ 2) (g .used b) (g .bits b) _ (shape .rows .words b)
+      by-test (λ (v : List ℕ). length v ≡ WORDS) (g .used b) (g .bits b) _ (shape .rows .words b)
       (λ u. length-join (g .bits) (containing up (g .used) (g .heads) b))
 
   node-tally : (n : ℕ) → T (g .used n) → tally up g n ≡ g .bits n
@@ -490,8 +491,8 @@ module _ (up ids : ℕ → ℕ) (falls : (k : ℕ) → up k ≤ pred k) (base co
       go : ((first-in (λ n. ok (g .bits n)) ns ≡ 0) × ((n : ℕ) → 0 < times n ns → ok (g .bits n) ≡ false))
           ⊎ ((0 < times (first-in (λ n. ok (g .bits n)) ns) ns) × T (ok (g .bits (first-in (λ n. ok (g .bits n)) ns))) × (first-in (λ n. ok (g .bits n)) ns ≢ 0))
           → ((c : ℕ) → count ≤ c + f → c < count → T (ok (tally up g c)) → Follow up falls (g .used) c (children up g c) → Ended c (settle up g ok f c (children up g c)))
-          → Ended b (cond (eqb c′ 0) (merge up (g .bits) ok 256 b ns) (settle up g ok f c′ (children up g c′)))
-      go (inl r) rec = rw (eq-eqb c′ 0 (r .0)) (merge-ends 256 b ns (omega arith) k t follow (r .1))
+          → Ended b (cond (eqb c′ 0) (merge up (g .bits) ok BLOCKS b ns) (settle up g ok f c′ (children up g c′)))
+      go (inl r) rec = rw (eq-eqb c′ 0 (r .0)) (merge-ends BLOCKS b ns (omega arith) k t follow (r .1))
       go (inr r) rec =
           let n = follow .only c′ (r .0) in
           let q = under-is up falls b c′ (n .lower) in
@@ -510,9 +511,9 @@ module _ (up ids : ℕ → ℕ) (falls : (k : ℕ) → up k ≤ pred k) (base co
   pub ghost-ends : (b : ℕ) → T (below up base b) → b < count → T (ok (tally up g b)) → (r : ℕ) × (find-ghost up g ok b ≡ some r) × Ended b r
   unfolding find-ghost
   ghost-ends b in-base k t = (
-    settle up g ok 256 b (following up g b),
+    settle up g ok BLOCKS b (following up g b),
     rw (true-T (ok (tally up g b)) t),
-    settle-ends 256 b (following up g b) (omega arith) k t (following-says up ids falls base count g (shape .nodes) b in-base),
+    settle-ends BLOCKS b (following up g b) (omega arith) k t (following-says up ids falls base count g (shape .nodes) b in-base),
   )
 
   pub ghost-none : (b : ℕ) → T (not (ok (tally up g b))) → find-ghost up g ok b ≡ none

@@ -9,6 +9,7 @@ use native.Mathlib.Omega.{arith}
 use lib.Dec.{T, eqb, ltb, eqb→eq, eqb-refl, ltb→lt, nltb→le, T-not, not-T}
 use lib.ListN.{length}
 use borrow.Author.Tests.{eq-eqb, ne-eqb, lt-ltb, le-ltb}
+use Rattle.sizes.specs.Sizes.{WORDS, VOTES}
 use Rattle.loops.specs.Listing.{times, keep}
 use Rattle.loops.proofs.Tests.{by-test, same-test, decT, in-left, in-right, either, both, left-of, right-of, true-T, false-T, le-or-lt}
 use Rattle.loops.proofs.Listings.{times-append, times-here, times-past, times-none, times-more, times-keep}
@@ -19,7 +20,7 @@ use Rattle.bitfield.specs.Bits.{has, put}
 use Rattle.bitfield.proofs.Sets.{has-put, length-put}
 use Rattle.graph.specs.Search.{containing, nearest}
 use Rattle.graph.specs.Graph.{Graph, join-of, enter, relist, rehead, add-node, mark, insert}
-use Rattle.graph.specs.Shape.{Holds, Tip, Rising, Nodes, Bits, Voted, Targets, Shape, with-vote}
+use Rattle.graph.specs.Shape.{Holds, Tip, Rising, Nodes, Bits, Voted, Used-only, Targets, Shape, with-vote}
 use Rattle.graph.proofs.Climbs.{Nearest, nearest-says, holds-past}
 use Rattle.graph.proofs.Found.{containing-once, containing-only, containing-over}
 use Rattle.graph.proofs.Tallies.{join-told, length-join}
@@ -317,7 +318,7 @@ module _ (up ids : ℕ → ℕ) (falls : (k : ℕ) → up k ≤ pred k) (base co
     added-rows =
         record {
           words = λ x u.
-              by-test (λ (v : List ℕ). length v ≡ 2) (eqb x t) _ (g .bits x)
+              by-test (λ (v : List ℕ). length v ≡ WORDS) (eqb x t) _ (g .bits x)
               (λ e. length-join (g .bits) (containing up (g .used) (g .heads) t))
               (λ e. shape .rows .words x (was x u e));
           told = λ x u j.
@@ -330,14 +331,14 @@ module _ (up ids : ℕ → ℕ) (falls : (k : ℕ) → up k ≤ pred k) (base co
         was x u n = ⊎-elim (λ v. v) (λ e. absurd (T-not (eqb x t) n e)) (either (g .used x) (eqb x t) u)
 
   -- bit j, silent until now, for a node that is there
-  module _ (g : Graph) (j : ℕ) (few : j < 128) (quiet : cast j ≡ silent) (nodes : Nodes up ids base count (g .used) (g .order) (g .heads))
+  module _ (g : Graph) (j : ℕ) (few : j < VOTES) (quiet : cast j ≡ silent) (nodes : Nodes up ids base count (g .used) (g .order) (g .heads))
       (rows : Bits up cast (g .used) (g .bits)) (here : T (g .used t)) where
     marked-rows : Bits up (with-vote cast j t) (mark up t j g .used) (mark up t j g .bits)
     unfolding mark
     marked-rows =
         record {
           words = λ x u.
-              by-test (λ (v : List ℕ). length v ≡ 2) (g .used x && below up x t) (put (g .bits x) j) (g .bits x)
+              by-test (λ (v : List ℕ). length v ≡ WORDS) (g .used x && below up x t) (put (g .bits x) j) (g .bits x)
               (λ e. length-put (g .bits x) j ∙ rows .words x u) (λ e. rows .words x u);
           told = λ x u i.
               by-test (λ (v : List ℕ). has v i ≡ lands up x (with-vote cast j t i)) (g .used x && below up x t) (put (g .bits x) j) (g .bits x)
@@ -377,38 +378,24 @@ module _ (up ids : ℕ → ℕ) (falls : (k : ℕ) → up k ≤ pred k) (base co
     targeted (once y) e x p = let q : y ≡ t = cc in sym q ∙ p
     targeted (twice y) e x p = absurd (let z : _≡_ {A = ℕ} 0 1 = cc in omega arith)
 
-    marked-voted : ((i x : ℕ) → Targets (cast i) x → T (g .used x)) → ((x : ℕ) → T (g .used x) → x ≢ base → x ≢ t → (i : ℕ) × Targets (cast i) x)
-        → Voted base (with-vote cast j t) (mark up t j g .used)
+    marked-voted : ((i x : ℕ) → Targets (cast i) x → T (g .used x)) → Voted (with-vote cast j t) (mark up t j g .used)
     unfolding mark
-    marked-voted targets only =
-        record {
-          target-used = λ i x p. go i x p (ℕ-discrete i j);
-          used-only = λ x u n. found x u n (ℕ-discrete x t);
-        }
+    marked-voted targets = record { target-used = λ i x p. go i x p (ℕ-discrete i j) }
       where
         go : (i x : ℕ) → Targets (with-vote cast j t i) x → Dec (i ≡ j) → T (g .used x)
         go i x p (yes e) =
             subst (λ (z : ℕ). T (g .used z)) (targeted (with-vote cast j t i) (ap (λ (b : Bool). cond b (once t) (cast i)) (eq-eqb i j e)) x p) here
         go i x p (no n) = targets i x (subst (λ (v : Vote). Targets v x) (ap (λ (b : Bool). cond b (once t) (cast i)) (ne-eqb i j n)) p)
 
-        found : (x : ℕ) → T (g .used x) → x ≢ base → Dec (x ≡ t) → (i : ℕ) × Targets (with-vote cast j t i) x
-        found x u n (yes e) = (j, subst (λ (v : Vote). Targets v x) (sym (ap (λ (b : Bool). cond b (once t) (cast j)) (eq-eqb j j refl))) (sym e))
-        found x u n (no m) =
-            let r = only x u n m in
-            (r .0, subst (λ (v : Vote). Targets v x) (sym (ap (λ (b : Bool). cond b (once t) (cast (r .0))) (ne-eqb (r .0) j (λ e. loud (r .0) e (r .1))))) (r .1))
-          where
-            loud : (i : ℕ) → i ≡ j → Targets (cast i) x → ⊥
-            loud i e p = subst (λ (v : Vote). Targets v x) (ap cast e ∙ quiet) p
-
   -- a first vote of bit j for t keeps the shape
-  module _ (g : Graph) (shape : Shape up ids base count cast g) (j : ℕ) (few : j < 128) (quiet : cast j ≡ silent) where
+  module _ (g : Graph) (shape : Shape up ids base count cast g) (j : ℕ) (few : j < VOTES) (quiet : cast j ≡ silent) where
     keeps-there : T (g .used t) → Shape up ids base count (with-vote cast j t) (mark up t j g)
     unfolding mark
     keeps-there u =
         record {
           nodes = shape .nodes;
           rows = marked-rows g j few quiet (shape .nodes) (shape .rows) u;
-          voted = marked-voted g j few quiet (shape .nodes) (shape .rows) u (shape .voted .target-used) (λ x v n m. shape .voted .used-only x v n);
+          voted = marked-voted g j few quiet (shape .nodes) (shape .rows) u (shape .voted .target-used);
         }
 
     keeps-new : T (not (g .used t)) → ((y : ℕ) → T (g .used y) → ids y ≢ ids t)
@@ -418,9 +405,7 @@ module _ (up ids : ℕ → ℕ) (falls : (k : ℕ) → up k ≤ pred k) (base co
         record {
           nodes = added;
           rows = marked-rows g′ j few quiet added rows here;
-          voted = marked-voted g′ j few quiet added rows here
-              (λ i x p. was-used x (shape .voted .target-used i x p))
-              (λ x v n m. shape .voted .used-only x (is-old x v m) n);
+          voted = marked-voted g′ j few quiet added rows here (λ i x p. was-used x (shape .voted .target-used i x p));
         }
       where
         g′ : Graph
@@ -438,9 +423,6 @@ module _ (up ids : ℕ → ℕ) (falls : (k : ℕ) → up k ≤ pred k) (base co
         was-used : (x : ℕ) → T (g .used x) → T (add-node up ids t g .used x)
         was-used x v = unfold add-node in in-left (g .used x) (eqb x t) v
 
-        is-old : (x : ℕ) → T (add-node up ids t g .used x) → x ≢ t → T (g .used x)
-        is-old x v n = unfold add-node in ⊎-elim (λ w. w) (λ e. absurd (n (eqb→eq x t e))) (either (g .used x) (eqb x t) v)
-
     pub insert-keeps : ((y : ℕ) → T (g .used y) → y ≢ t → ids y ≢ ids t) → Shape up ids base count (with-vote cast j t) (insert up ids t j g)
     unfolding insert
     insert-keeps apart =
@@ -451,14 +433,33 @@ module _ (up ids : ℕ → ℕ) (falls : (k : ℕ) → up k ≤ pred k) (base co
 -- a second vote changes neither a first target nor a node
 pub shape-same : (up ids : ℕ → ℕ) (base count : ℕ) (cast cast′ : ℕ → Vote) (g : Graph)
     → ((i x : ℕ) → lands up x (cast i) ≡ lands up x (cast′ i))
-    → ((i x : ℕ) → Targets (cast i) x → Targets (cast′ i) x) → ((i x : ℕ) → Targets (cast′ i) x → Targets (cast i) x)
+    → ((i x : ℕ) → Targets (cast′ i) x → Targets (cast i) x)
     → Shape up ids base count cast g → Shape up ids base count cast′ g
-shape-same up ids base count cast cast′ g same to fro shape =
+shape-same up ids base count cast cast′ g same fro shape =
     record {
       nodes = shape .nodes;
       rows = record { words = shape .rows .words; told = λ x u j. shape .rows .told x u j ∙ same j x };
-      voted = record {
-        target-used = λ i x p. shape .voted .target-used i x (fro i x p);
-        used-only = λ x u n. let r = shape .voted .used-only x u n in (r .0, to (r .0) x (r .1));
-      };
+      voted = record { target-used = λ i x p. shape .voted .target-used i x (fro i x p) };
     }
+
+-- the nodes stay the base and the targets of first votes: after a first vote of bit j for t, after a second
+module _ (base : ℕ) (cast : ℕ → Vote) (g : Graph) (only : Used-only base cast (g .used)) where
+  pub only-inserted : (up ids : ℕ → ℕ) (t j : ℕ) → cast j ≡ silent → Used-only base (with-vote cast j t) (insert up ids t j g .used)
+  only-inserted up ids t j quiet x u n = found (ℕ-discrete x t)
+    where
+      old : T (insert up ids t j g .used x) → x ≢ t → T (g .used x)
+      old v m = unfold insert in unfold mark in
+          by-test (λ (h : Graph). T (h .used x) → T (g .used x)) (g .used t) g (add-node up ids t g) (λ e w. w)
+          (λ e w. unfold add-node in ⊎-elim (λ z. z) (λ z. absurd (m (eqb→eq x t z))) (either (g .used x) (eqb x t) w)) v
+
+      loud : (i : ℕ) → i ≡ j → Targets (cast i) x → ⊥
+      loud i e p = subst (λ (v : Vote). Targets v x) (ap cast e ∙ quiet) p
+
+      found : Dec (x ≡ t) → (i : ℕ) × Targets (with-vote cast j t i) x
+      found (yes e) = (j, subst (λ (v : Vote). Targets v x) (sym (ap (λ (b : Bool). cond b (once t) (cast j)) (eq-eqb j j refl))) (sym e))
+      found (no m) =
+          let r = only x (old u m) n in
+          (r .0, subst (λ (v : Vote). Targets v x) (sym (ap (λ (b : Bool). cond b (once t) (cast (r .0))) (ne-eqb (r .0) j (λ e. loud (r .0) e (r .1))))) (r .1))
+
+  pub only-same : (cast′ : ℕ → Vote) → ((i x : ℕ) → Targets (cast i) x → Targets (cast′ i) x) → Used-only base cast′ (g .used)
+  only-same cast′ to x u n = let r = only x u n in (r .0, to (r .0) x (r .1))

@@ -7,6 +7,7 @@ use Prim.Native.Nat.{ℕ, zero, suc, pred, _≤_, _<_}
 use native.Mathlib.Omega.{arith}
 use lib.Dec.{T, eqb}
 use lib.ListN.{length, replicate}
+use Rattle.sizes.specs.Sizes.{WORDS}
 use Rattle.loops.specs.Listing.{times, fold, some-of}
 use Rattle.loops.proofs.Tests.{by-test, same-test, true-T, false-T}
 use Rattle.loops.proofs.Listings.{times-here, times-more, some-at, some-intro}
@@ -22,7 +23,7 @@ use Rattle.graph.proofs.Found.{containing-only, containing-over}
 
 -- joined bits
 module _ (bits : ℕ → List ℕ) where
-  joins : (ns : List ℕ) (v : List ℕ) → length v ≡ 2 → ((n : ℕ) → 0 < times n ns → length (bits n) ≡ 2) → (j : ℕ)
+  joins : (ns : List ℕ) (v : List ℕ) → length v ≡ WORDS → ((n : ℕ) → 0 < times n ns → length (bits n) ≡ WORDS) → (j : ℕ)
       → has (fold (λ n v. joined v (bits n)) ns v) j ≡ (has v j || some-of (λ n. has (bits n) j) ns)
   unfolding fold some-of
   joins [] v e wide j = or-none (has v j)
@@ -40,17 +41,17 @@ module _ (bits : ℕ → List ℕ) where
       or-assoc true b c = refl
       or-assoc false b c = refl
 
-  pub has-join : (ns : List ℕ) → ((n : ℕ) → 0 < times n ns → length (bits n) ≡ 2) → (j : ℕ)
+  pub has-join : (ns : List ℕ) → ((n : ℕ) → 0 < times n ns → length (bits n) ≡ WORDS) → (j : ℕ)
       → has (join-of bits ns) j ≡ some-of (λ n. has (bits n) j) ns
   unfolding join-of
-  has-join ns wide j = joins ns no-bits refl wide j ∙ ap (λ (b : Bool). b || some-of (λ n. has (bits n) j) ns) (has-none 2 j)
+  has-join ns wide j = joins ns no-bits refl wide j ∙ ap (λ (b : Bool). b || some-of (λ n. has (bits n) j) ns) (has-none WORDS j)
 
-  lengths : (ns : List ℕ) (v : List ℕ) → length v ≡ 2 → length (fold (λ n v. joined v (bits n)) ns v) ≡ 2
+  lengths : (ns : List ℕ) (v : List ℕ) → length v ≡ WORDS → length (fold (λ n v. joined v (bits n)) ns v) ≡ WORDS
   unfolding fold
   lengths [] v e = e
   lengths (n ∷ ns) v e = lengths ns (joined v (bits n)) (length-joined v (bits n) ∙ e)
 
-  pub length-join : (ns : List ℕ) → length (join-of bits ns) ≡ 2
+  pub length-join : (ns : List ℕ) → length (join-of bits ns) ≡ WORDS
   unfolding join-of
   length-join ns = lengths ns no-bits refl
 

@@ -5,6 +5,7 @@ use mathlib.Core.List.{List, [], _∷_, _++_}
 use mathlib.Core.Option.{Option, none, some}
 use Prim.Native.Nat.{ℕ, zero, suc}
 use lib.Dec.{eqb}
+use Rattle.sizes.specs.Sizes.{BLOCKS}
 use Rattle.loops.specs.Listing.{keep}
 use Rattle.grandpa.specs.Tree.{below}
 use Rattle.grandpa.specs.Answers.{first-of}
@@ -57,7 +58,7 @@ unfoldable pub settle : (ℕ → ℕ) → Graph → (List ℕ → Bool) → ℕ 
 settle up g ok zero b ns = b
 settle up g ok (suc f) b ns =
     let c = first-in (λ n. ok (g .bits n)) ns in
-    cond (eqb c 0) (merge up (g .bits) ok 256 b ns) (settle up g ok f c (children up g c))
+    cond (eqb c 0) (merge up (g .bits) ok BLOCKS b ns) (settle up g ok f c (children up g c))
 
 -- the nodes that follow a block: below it, with no node between
 unfoldable pub following : (ℕ → ℕ) → Graph → ℕ → List ℕ
@@ -65,7 +66,7 @@ following up g b = keep (under up b) (children up g (nearest up (g .used) b))
 
 -- where `find_ghost` ends from a block that passes
 abbrev pub descend : (ℕ → ℕ) → Graph → (List ℕ → Bool) → ℕ → ℕ
-descend up g ok b = settle up g ok 256 b (following up g b)
+descend up g ok b = settle up g ok BLOCKS b (following up g b)
 
 -- `find_ghost` from a block: none where the block does not pass
 unfoldable pub find-ghost : (ℕ → ℕ) → Graph → (List ℕ → Bool) → ℕ → Option ℕ

@@ -3,6 +3,8 @@ use mathlib.Core.Bool.{Bool, cond, not, _&&_, _||_}
 use mathlib.Core.List.{List, [], _∷_, _++_}
 use Prim.Native.Nat.{ℕ, zero, suc}
 use lib.Dec.{ltb, eqb}
+use lib.ListN.{replicate}
+use Rattle.sizes.specs.Sizes.{WORDS}
 use Rattle.loops.specs.Listing.{times, keep, fold}
 use Rattle.grandpa.specs.Tree.{below}
 use Rattle.bitfield.specs.Bits.{put, joined}
@@ -17,7 +19,7 @@ pub record Graph : Type 0 where
   pub heads : List ℕ
 
 abbrev pub no-bits : List ℕ
-no-bits = 0 ∷ 0 ∷ []
+no-bits = replicate WORDS 0
 
 -- the bits of several nodes joined
 unfoldable pub join-of : (ℕ → List ℕ) → List ℕ → List ℕ

@@ -8,6 +8,7 @@ use mathlib.Core.Logic.{_≢_}
 use Prim.Native.Nat.{ℕ, _<_}
 use lib.Dec.{T, eqb}
 use lib.ListN.{length}
+use Rattle.sizes.specs.Sizes.{WORDS}
 use Rattle.loops.specs.Listing.{times}
 use Rattle.grandpa.specs.Tree.{below}
 use Rattle.grandpa.specs.Vote.{Vote, silent, once, twice, lands}
@@ -50,14 +51,17 @@ abbrev pub with-vote : (ℕ → Vote) → ℕ → ℕ → ℕ → Vote
 with-vote cast j t i = cond (eqb i j) (once t) (cast i)
 
 pub record Bits (up : ℕ → ℕ) (cast : ℕ → Vote) (used : ℕ → Bool) (bits : ℕ → List ℕ) : Type 0 where
-  pub words : (x : ℕ) → T (used x) → length (bits x) ≡ 2
+  pub words : (x : ℕ) → T (used x) → length (bits x) ≡ WORDS
   pub told : (x : ℕ) → T (used x) → (j : ℕ) → has (bits x) j ≡ lands up x (cast j)
 
-pub record Voted (base : ℕ) (cast : ℕ → Vote) (used : ℕ → Bool) : Type 0 where
+pub record Voted (cast : ℕ → Vote) (used : ℕ → Bool) : Type 0 where
   pub target-used : (j x : ℕ) → Targets (cast j) x → T (used x)
-  pub used-only : (x : ℕ) → T (used x) → x ≢ base → (j : ℕ) × Targets (cast j) x
+
+-- no node but the base and the targets of first votes. It stands apart from `Shape`: no law on inserting or searching asks for it
+abbrev pub Used-only : ℕ → (ℕ → Vote) → (ℕ → Bool) → Type 0
+Used-only base cast used = (x : ℕ) → T (used x) → x ≢ base → (j : ℕ) × Targets (cast j) x
 
 pub record Shape (up ids : ℕ → ℕ) (base count : ℕ) (cast : ℕ → Vote) (g : Graph) : Type 0 where
   pub nodes : Nodes up ids base count (g .used) (g .order) (g .heads)
   pub rows : Bits up cast (g .used) (g .bits)
-  pub voted : Voted base cast (g .used)
+  pub voted : Voted cast (g .used)

@@ -25,11 +25,11 @@ module _ (places : List ℕ) (marks : List Bool) where
       → fresh places marks k ≡ getD left at false
   fresh-is k at left e q = rw (q, e)
 
-  pub once-false : (n k : ℕ) → k < n → fresh places marks k ≡ false → false ≡ once-each places n marks
+  pub once-false : (size n k : ℕ) → k < n → fresh places marks k ≡ false → false ≡ once-each size places n marks
   unfolding once-each
-  once-false n k h e = rw (all-false (fresh places marks) n k h e)
+  once-false size n k h e = rw (all-false (fresh places marks) n k h e)
 
-  pub once-end : (n k : ℕ) (left : List Bool) → k ≡ n → all k (fresh places marks) ≡ true → left ≡ unmarked (front k places) marks
-      → none-left left ≡ once-each places n marks
+  pub once-end : (size n k : ℕ) (left : List Bool) → k ≡ n → all k (fresh places marks) ≡ true → left ≡ unmarked (front k places) marks
+      → none-left size left ≡ once-each size places n marks
   unfolding once-each
-  once-end n k left h a e = rw (← h, a, e)
+  once-end size n k left h a e = rw (← h, a, e)

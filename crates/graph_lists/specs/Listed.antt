@@ -5,6 +5,7 @@ use mathlib.Core.List.{List}
 use Prim.Native.Nat.{ℕ, _-_}
 use lib.Dec.{eqb, ltb}
 use lib.ListN.{getD, set}
+use Rattle.sizes.specs.Sizes.{BLOCKS}
 use Rattle.loops.specs.All.{all}
 use Rattle.loops.specs.Listing.{fold, front}
 use Rattle.columns.specs.Blank.{blank}
@@ -18,20 +19,20 @@ struck f places marks = fold (λ x m. set m (f x) false) places marks
 abbrev pub unmarked : List ℕ → List Bool → List Bool
 unmarked places marks = struck (λ x. x) places marks
 
-unfoldable pub none-left : List Bool → Bool
-none-left marks = all 256 (λ k. not (flag marks k))
+unfoldable pub none-left : ℕ → List Bool → Bool
+none-left size marks = all size (λ k. not (flag marks k))
 
 -- the k-th place is marked and not there before
 abbrev pub fresh : List ℕ → List Bool → ℕ → Bool
 fresh places marks k = flag (unmarked (front k places) marks) (col places k)
 
--- the first n places are the marked ones, once each
-unfoldable pub once-each : List ℕ → ℕ → List Bool → Bool
-once-each places n marks = all n (fresh places marks) && none-left (unmarked (front n places) marks)
+-- the first n places are the marked ones of a number of places, once each
+unfoldable pub once-each : ℕ → List ℕ → ℕ → List Bool → Bool
+once-each size places n marks = all n (fresh places marks) && none-left size (unmarked (front n places) marks)
 
 -- and the rest of the column is 0
-unfoldable pub laid : List ℕ → ℕ → List Bool → Bool
-laid places n marks = once-each places n marks && blank places n 256
+unfoldable pub laid : ℕ → List ℕ → ℕ → List Bool → Bool
+laid size places n marks = once-each size places n marks && blank places n size
 
 -- the nodes that list none: no listed node has them above it
 abbrev pub childless : List Bool → List ℕ → List ℕ → List Bool
@@ -46,4 +47,4 @@ zero-bits bits = eqb (getD bits 0 0) 0 && eqb (getD bits 1 0) 0
 
 -- no bits where there is no node
 unfoldable pub bare : List Bool → List (List ℕ) → Bool
-bare used rows = all 256 (λ k. flag used k || zero-bits (row rows k))
+bare used rows = all BLOCKS (λ k. flag used k || zero-bits (row rows k))

@@ -4,6 +4,7 @@ use mathlib.Core.List.{List, [], map}
 use mathlib.Core.Path.{_≡_}
 use Prim.Native.Nat.{ℕ, _<_}
 use lib.ListN.{getD, length}
+use Rattle.sizes.specs.Sizes.{WORDS, BLOCKS}
 use Rattle.graph_rows.specs.declared.Row.{Row}
 
 abbrev pub bits-of : Row → List ℕ
@@ -22,4 +23,4 @@ rows-of words = map row-of words
 
 -- two words a place, which the types say of an array in code
 abbrev pub Paired : List (List ℕ) → Type 0
-Paired words = (x : ℕ) → x < 256 → length (getD words x []) ≡ 2
+Paired words = (x : ℕ) → x < BLOCKS → length (getD words x []) ≡ WORDS

@@ -19,20 +19,21 @@ use Rattle.graph.specs.Search.{nearest}
 use Rattle.graph.specs.Graph.{no-bits}
 use Rattle.graph.specs.Shape.{Tip, Nodes}
 use Rattle.nodes.specs.Nodes.{col, flag, row, Falls}
-use Rattle.nodes.specs.Columns.{Columns, Sound}
+use Rattle.nodes.specs.Columns.{Columns, Sized, Sound}
 use Rattle.graph_sweeps.specs.Swept.{inside, tied}
+use Rattle.sizes.specs.Sizes.{WORDS, BLOCKS}
 use Rattle.graph_lists.specs.Listed.{once-each, laid, childless, rising, zero-bits, bare}
-use Rattle.graph_shape.specs.Graphed.{counted, others, graphed, Sized, Clear}
+use Rattle.graph_shape.specs.Graphed.{counted, others, graphed, Clear}
 use Rattle.graph_shape.proofs.Counts.{Counts, counted-says, says-counted}
 use Rattle.graph_shape.proofs.Marks.{unset, struck-length, left-says, says-left, blank-padded, padded-blank, Once, once-says, says-once}
 use Rattle.graph_shape.proofs.Heads.{rising-says, says-rising}
 use Rattle.graph_shape.proofs.Tips.{above-earlier, tip-of, tip-lists}
 
 -- a marked place is within the column
-marked-in : (marks : List Bool) (x : ℕ) → length marks ≡ 256 → T (flag marks x) → x < 256
-marked-in marks x s t = go (decLt x 256)
+marked-in : (marks : List Bool) (x : ℕ) → length marks ≡ BLOCKS → T (flag marks x) → x < BLOCKS
+marked-in marks x s t = go (decLt x BLOCKS)
   where
-    go : Dec (x < 256) → x < 256
+    go : Dec (x < BLOCKS) → x < BLOCKS
     go (yes l) = l
     go (no l) = absurd (subst T (List·getD-eq-default marks false (omega arith)) t)
 
@@ -48,9 +49,9 @@ module _ (used : List Bool) (base : ℕ) where
   says-others x u n = subst T (sym (getD-set-other used base x false false n)) u
 
 module _ (parents : List ℕ) (count base : ℕ) (used : List Bool) where
-  inside-says : length used ≡ 256 → T (inside parents count base used) → (x : ℕ) → T (flag used x) → (x < count) × T (below (col parents) base x)
+  inside-says : length used ≡ BLOCKS → T (inside parents count base used) → (x : ℕ) → T (flag used x) → (x < count) × T (below (col parents) base x)
   unfolding inside
-  inside-says s t x u = go (either (not (flag used x)) _ (all-at _ 256 t x (marked-in used x s u)))
+  inside-says s t x u = go (either (not (flag used x)) _ (all-at _ BLOCKS t x (marked-in used x s u)))
     where
       go : T (not (flag used x)) ⊎ T (ltb x count && below (col parents) base x) → (x < count) × T (below (col parents) base x)
       go (inl n) = absurd (T-not (flag used x) n u)
@@ -58,36 +59,36 @@ module _ (parents : List ℕ) (count base : ℕ) (used : List Bool) where
 
   says-inside : ((x : ℕ) → T (flag used x) → (x < count) × T (below (col parents) base x)) → T (inside parents count base used)
   unfolding inside
-  says-inside f = all-intro _ 256 (λ k h. go k (decT (flag used k)))
+  says-inside f = all-intro _ BLOCKS (λ k h. go k (decT (flag used k)))
     where
       go : (k : ℕ) → Dec (T (flag used k)) → T (not (flag used k) || (ltb k count && below (col parents) base k))
       go k (yes u) = in-right (not (flag used k)) _ (both (ltb k count) _ (T-true (lt-ltb k count (f k u .0))) (f k u .1))
       go k (no n) = in-left (not (flag used k)) _ (not-T (flag used k) n)
 
 module _ (parents : List ℕ) (used rest : List Bool) (above : List ℕ) where
-  tied-says : length rest ≡ 256 → T (tied parents used rest above) → (k : ℕ) → T (flag rest k)
+  tied-says : length rest ≡ BLOCKS → T (tied parents used rest above) → (k : ℕ) → T (flag rest k)
       → col above k ≡ nearest (col parents) (flag used) (col parents k)
   unfolding tied
-  tied-says s t k r = rw (true-T (flag rest k) r) at (eqb→eq (col above k) _ (all-at _ 256 t k (marked-in rest k s r)))
+  tied-says s t k r = rw (true-T (flag rest k) r) at (eqb→eq (col above k) _ (all-at _ BLOCKS t k (marked-in rest k s r)))
 
-  tied-zero : length above ≡ 256 → T (tied parents used rest above) → (k : ℕ) → (T (flag rest k) → ⊥) → col above k ≡ 0
+  tied-zero : length above ≡ BLOCKS → T (tied parents used rest above) → (k : ℕ) → (T (flag rest k) → ⊥) → col above k ≡ 0
   unfolding tied
-  tied-zero s t k n = go (decLt k 256)
+  tied-zero s t k n = go (decLt k BLOCKS)
     where
-      go : Dec (k < 256) → col above k ≡ 0
-      go (yes l) = rw (false-not (flag rest k) n) at (eqb→eq (col above k) _ (all-at _ 256 t k l))
+      go : Dec (k < BLOCKS) → col above k ≡ 0
+      go (yes l) = rw (false-not (flag rest k) n) at (eqb→eq (col above k) _ (all-at _ BLOCKS t k l))
       go (no l) = List·getD-eq-default above 0 (omega arith)
 
   says-tied : ((k : ℕ) → T (flag rest k) → col above k ≡ nearest (col parents) (flag used) (col parents k))
       → ((k : ℕ) → (T (flag rest k) → ⊥) → col above k ≡ 0) → T (tied parents used rest above)
   unfolding tied
-  says-tied f z = all-intro _ 256 (λ k h. T-true (eq-eqb (col above k) _ (go k (flag rest k) refl)))
+  says-tied f z = all-intro _ BLOCKS (λ k h. T-true (eq-eqb (col above k) _ (go k (flag rest k) refl)))
     where
       go : (k : ℕ) (b : Bool) → flag rest k ≡ b → col above k ≡ cond b (nearest (col parents) (flag used) (col parents k)) 0
       go k true e = f k (T-true e)
       go k false e = z k (λ t. subst T e t)
 
-two-zeros : (bits : List ℕ) → length bits ≡ 2 → T (zero-bits bits) → bits ≡ no-bits
+two-zeros : (bits : List ℕ) → length bits ≡ WORDS → T (zero-bits bits) → bits ≡ no-bits
 two-zeros bits s t = ext-getD 0 bits no-bits s at
   where
     at : (i : ℕ) → i < length bits → getD bits i 0 ≡ getD no-bits i 0
@@ -96,35 +97,35 @@ two-zeros bits s t = ext-getD 0 bits no-bits s at
     at (suc (suc i)) h = absurd (omega arith)
 
 module _ (used : List Bool) (rows : List (List ℕ)) where
-  bare-says : T (bare used rows) → (k : ℕ) → k < 256 → T (not (flag used k)) → T (zero-bits (row rows k))
+  bare-says : T (bare used rows) → (k : ℕ) → k < BLOCKS → T (not (flag used k)) → T (zero-bits (row rows k))
   unfolding bare
-  bare-says t k h n = go (either (flag used k) _ (all-at _ 256 t k h))
+  bare-says t k h n = go (either (flag used k) _ (all-at _ BLOCKS t k h))
     where
       go : T (flag used k) ⊎ T (zero-bits (row rows k)) → T (zero-bits (row rows k))
       go (inl u) = absurd (T-not (flag used k) n u)
       go (inr z) = z
 
-  says-bare : ((k : ℕ) → k < 256 → T (not (flag used k)) → row rows k ≡ no-bits) → T (bare used rows)
+  says-bare : ((k : ℕ) → k < BLOCKS → T (not (flag used k)) → row rows k ≡ no-bits) → T (bare used rows)
   unfolding bare
-  says-bare f = all-intro _ 256 (λ k h. go k h (decT (flag used k)))
+  says-bare f = all-intro _ BLOCKS (λ k h. go k h (decT (flag used k)))
     where
-      go : (k : ℕ) → k < 256 → Dec (T (flag used k)) → T (flag used k || zero-bits (row rows k))
+      go : (k : ℕ) → k < BLOCKS → Dec (T (flag used k)) → T (flag used k || zero-bits (row rows k))
       go k h (yes u) = in-left (flag used k) _ u
       go k h (no n) = in-right (flag used k) _ (subst (λ (b : List ℕ). T (zero-bits b)) (sym (f k h (not-T (flag used k) n))) tt)
 
 -- a list laid down in a column
 module _ (places : List ℕ) (n : ℕ) (marks : List Bool) where
-  laid-once : length marks ≡ 256 → T (laid places n marks) → Once places n marks
+  laid-once : length marks ≡ BLOCKS → T (laid BLOCKS places n marks) → Once places n marks
   unfolding laid
-  laid-once s t = once-says places n marks s (left-of (once-each places n marks) _ t)
+  laid-once s t = once-says BLOCKS places n marks s (left-of (once-each BLOCKS places n marks) _ t)
 
-  laid-blank : T (laid places n marks) → T (blank places n 256)
+  laid-blank : T (laid BLOCKS places n marks) → T (blank places n BLOCKS)
   unfolding laid
-  laid-blank t = right-of (once-each places n marks) _ t
+  laid-blank t = right-of (once-each BLOCKS places n marks) _ t
 
-  says-laid : Once places n marks → T (blank places n 256) → T (laid places n marks)
+  says-laid : Once places n marks → T (blank places n BLOCKS) → T (laid BLOCKS places n marks)
   unfolding laid
-  says-laid o b = both (once-each places n marks) _ (says-once places n marks o) b
+  says-laid o b = both (once-each BLOCKS places n marks) _ (says-once BLOCKS places n marks o) b
 
 module _ (parents ids : List ℕ) (base count : ℕ) (g : Columns) where
   -- each test of the whole
@@ -132,8 +133,8 @@ module _ (parents ids : List ℕ) (base count : ℕ) (g : Columns) where
     pub counts : T (counted count base (g .used) (g .listed) (g .tips))
     pub within : T (inside parents count base (g .used))
     pub ties : T (tied parents (g .used) (others (g .used) base) (g .above))
-    pub lists : T (laid (g .order) (g .listed) (others (g .used) base))
-    pub ends : T (laid (g .heads) (g .tips) (childless (g .used) (g .above) (front (g .listed) (g .order))))
+    pub lists : T (laid BLOCKS (g .order) (g .listed) (others (g .used) base))
+    pub ends : T (laid BLOCKS (g .heads) (g .tips) (childless (g .used) (g .above) (front (g .listed) (g .order))))
     pub rises : T (rising ids (g .heads) (g .tips))
     pub bares : T (bare (g .used) (g .rows))
 
@@ -143,14 +144,14 @@ module _ (parents ids : List ℕ) (base count : ℕ) (g : Columns) where
       let a = right-of (counted count base (g .used) (g .listed) (g .tips)) _ t in
       let b = right-of (inside parents count base (g .used)) _ a in
       let c = right-of (tied parents (g .used) (others (g .used) base) (g .above)) _ b in
-      let d = right-of (laid (g .order) (g .listed) (others (g .used) base)) _ c in
-      let e = right-of (laid (g .heads) (g .tips) (childless (g .used) (g .above) (front (g .listed) (g .order)))) _ d in
+      let d = right-of (laid BLOCKS (g .order) (g .listed) (others (g .used) base)) _ c in
+      let e = right-of (laid BLOCKS (g .heads) (g .tips) (childless (g .used) (g .above) (front (g .listed) (g .order)))) _ d in
       record {
         counts = left-of (counted count base (g .used) (g .listed) (g .tips)) _ t;
         within = left-of (inside parents count base (g .used)) _ a;
         ties = left-of (tied parents (g .used) (others (g .used) base) (g .above)) _ b;
-        lists = left-of (laid (g .order) (g .listed) (others (g .used) base)) _ c;
-        ends = left-of (laid (g .heads) (g .tips) (childless (g .used) (g .above) (front (g .listed) (g .order)))) _ d;
+        lists = left-of (laid BLOCKS (g .order) (g .listed) (others (g .used) base)) _ c;
+        ends = left-of (laid BLOCKS (g .heads) (g .tips) (childless (g .used) (g .above) (front (g .listed) (g .order)))) _ d;
         rises = left-of (rising ids (g .heads) (g .tips)) _ e;
         bares = right-of (rising ids (g .heads) (g .tips)) _ e;
       }
@@ -161,8 +162,8 @@ module _ (parents ids : List ℕ) (base count : ℕ) (g : Columns) where
       both (counted count base (g .used) (g .listed) (g .tips)) _ (p .counts)
       (both (inside parents count base (g .used)) _ (p .within)
       (both (tied parents (g .used) (others (g .used) base) (g .above)) _ (p .ties)
-      (both (laid (g .order) (g .listed) (others (g .used) base)) _ (p .lists)
-      (both (laid (g .heads) (g .tips) (childless (g .used) (g .above) (front (g .listed) (g .order)))) _ (p .ends)
+      (both (laid BLOCKS (g .order) (g .listed) (others (g .used) base)) _ (p .lists)
+      (both (laid BLOCKS (g .heads) (g .tips) (childless (g .used) (g .above) (front (g .listed) (g .order)))) _ (p .ends)
       (both (rising ids (g .heads) (g .tips)) _ (p .rises) (p .bares))))))
 
   module _ (falls : Falls parents) (sized : Sized g) (p : Passed) where
@@ -172,7 +173,7 @@ module _ (parents ids : List ℕ) (base count : ℕ) (g : Columns) where
     in-base : (x : ℕ) → T (flag (g .used) x) → (x < count) × T (below (col parents) base x)
     in-base = inside-says parents count base (g .used) (sized .used-size) (p .within)
 
-    rest-size : length (others (g .used) base) ≡ 256
+    rest-size : length (others (g .used) base) ≡ BLOCKS
     rest-size = length-set (g .used) base false ∙ sized .used-size
 
     ties-are : (x : ℕ) → T (flag (g .used) x) → x ≢ base → col (g .above) x ≡ nearest (col parents) (flag (g .used)) (col parents x)
@@ -240,12 +241,9 @@ module _ (parents ids : List ℕ) (base count : ℕ) (g : Columns) where
           tied = ties-are;
           listed-fits = counts-are .listed-fits;
           tips-fit = counts-are .tips-fit;
-          used-size = sized .used-size;
-          above-size = sized .above-size;
-          rows-size = sized .rows-size;
-          row-size = sized .row-size;
-          order-clear = blank-padded (g .order) (g .listed) (sized .order-size) (counts-are .listed-fits) (laid-blank (g .order) (g .listed) _ (p .lists));
-          heads-clear = blank-padded (g .heads) (g .tips) (sized .heads-size) (counts-are .tips-fit) (laid-blank (g .heads) (g .tips) _ (p .ends));
+          sized = sized;
+          order-clear = blank-padded (g .order) BLOCKS (g .listed) (sized .order-size) (counts-are .listed-fits) (laid-blank (g .order) (g .listed) _ (p .lists));
+          heads-clear = blank-padded (g .heads) BLOCKS (g .tips) (sized .heads-size) (counts-are .tips-fit) (laid-blank (g .heads) (g .tips) _ (p .ends));
         }
 
     clear-are : Clear base g
@@ -279,10 +277,10 @@ module _ (parents ids : List ℕ) (base count : ℕ) (g : Columns) where
                 there = λ x r. let o = others-says (g .used) base x r in s .nodes .listed x (o .0) (o .1);
                 only = λ x h. let o = s .nodes .list-only x h in says-others (g .used) base x (o .0) (o .1);
               })
-              (padded-blank (g .order) (g .listed) (s .order-clear));
+              (padded-blank (g .order) BLOCKS (g .listed) (s .order-clear));
           ends = says-laid (g .heads) (g .tips) (childless (g .used) (g .above) (front (g .listed) (g .order)))
               (record { there = λ x r. head x (left-says (col (g .above)) x (front (g .listed) (g .order)) (g .used) r); only = λ x h. end x (s .nodes .head-only x h) })
-              (padded-blank (g .heads) (g .tips) (s .heads-clear));
+              (padded-blank (g .heads) BLOCKS (g .tips) (s .heads-clear));
           rises = says-rising ids (g .heads) (g .tips) (s .nodes .rising);
           bares = says-bare (g .used) (g .rows) (c .bare-rows);
         }

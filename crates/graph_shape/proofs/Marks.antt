@@ -96,30 +96,30 @@ module _ (xs : List ℕ) where
       go (no e) r = List·getD-append (front n xs) _ 0 k (omega (arith, length-front n xs)) ∙ r (omega arith)
 
   -- the rest 0
-  pub blank-padded : (n : ℕ) → length xs ≡ 256 → n ≤ 256 → T (blank xs n 256) → xs ≡ padded 256 (front n xs)
+  pub blank-padded : (size n : ℕ) → length xs ≡ size → n ≤ size → T (blank xs n size) → xs ≡ padded size (front n xs)
   unfolding blank
-  blank-padded n s h t =
-      ext-getD 0 xs (padded 256 (front n xs)) (s ∙ sym (length-padded 256 (front n xs) (omega (arith, length-front n xs))))
-      (λ i l. at i l (decLt i n) ∙ sym (get-padded 256 (front n xs) i))
+  blank-padded size n s h t =
+      ext-getD 0 xs (padded size (front n xs)) (s ∙ sym (length-padded size (front n xs) (omega (arith, length-front n xs))))
+      (λ i l. at i l (decLt i n) ∙ sym (get-padded size (front n xs) i))
     where
       at : (i : ℕ) → i < length xs → Dec (i < n) → getD xs i 0 ≡ getD (front n xs) i 0
       at i l (yes m) = sym (front-at i n m)
-      at i l (no m) = side (either (ltb i n) _ (all-at _ 256 t i (omega arith)))
+      at i l (no m) = side (either (ltb i n) _ (all-at _ size t i (omega (arith, s))))
         where
           side : T (ltb i n) ⊎ T (eqb (getD xs i 0) 0) → getD xs i 0 ≡ getD (front n xs) i 0
           side (inl q) = absurd (m (ltb→lt i n q))
           side (inr q) = eqb→eq _ _ q ∙ sym (List·getD-eq-default (front n xs) 0 (omega (arith, length-front n xs)))
 
-  pub padded-blank : (n : ℕ) → xs ≡ padded 256 (front n xs) → T (blank xs n 256)
+  pub padded-blank : (size n : ℕ) → xs ≡ padded size (front n xs) → T (blank xs n size)
   unfolding blank
-  padded-blank n e = all-intro _ 256 (λ k h. go k (decLt k n))
+  padded-blank size n e = all-intro _ size (λ k h. go k (decLt k n))
     where
       go : (k : ℕ) → Dec (k < n) → T (ltb k n || eqb (getD xs k 0) 0)
       go k (yes l) = in-left (ltb k n) (eqb (getD xs k 0) 0) (T-true (lt-ltb k n l))
       go k (no l) =
           in-right (ltb k n) (eqb (getD xs k 0) 0)
           (T-true (eq-eqb _ _
-          (ap (λ (ys : List ℕ). getD ys k 0) e ∙ get-padded 256 (front n xs) k
+          (ap (λ (ys : List ℕ). getD ys k 0) e ∙ get-padded size (front n xs) k
           ∙ List·getD-eq-default (front n xs) 0 (omega (arith, length-front n xs)))))
 
 -- the first n places are the marked ones, once each
@@ -127,7 +127,7 @@ pub record Once (places : List ℕ) (n : ℕ) (marks : List Bool) : Type 0 where
   pub there : (x : ℕ) → T (flag marks x) → times x (front n places) ≡ 1
   pub only : (x : ℕ) → 0 < times x (front n places) → T (flag marks x)
 
-module _ (places : List ℕ) (n : ℕ) (marks : List Bool) where
+module _ (size : ℕ) (places : List ℕ) (n : ℕ) (marks : List Bool) where
   -- a fresh place is marked, and in no place before
   fresh-says : (k : ℕ) → T (fresh places marks k) → T (flag marks (col places k)) × (times (col places k) (front k places) ≡ 0)
   fresh-says k t =
@@ -139,7 +139,7 @@ module _ (places : List ℕ) (n : ℕ) (marks : List Bool) where
       none (yes e) h = e
       none (no e) h = absurd (h (omega arith) refl)
 
-  pub once-says : length marks ≡ 256 → T (once-each places n marks) → Once places n marks
+  pub once-says : length marks ≡ size → T (once-each size places n marks) → Once places n marks
   unfolding once-each none-left
   once-says s t =
       record { there = λ x m. one x m (ℕ-discrete (times x (front n places)) 0); only = λ x h. upto n (omega arith) x .1 h }
@@ -161,20 +161,20 @@ module _ (places : List ℕ) (n : ℕ) (marks : List Bool) where
 
       one : (x : ℕ) → T (flag marks x) → Dec (times x (front n places) ≡ 0) → times x (front n places) ≡ 1
       one x m (no e) = omega (arith, upto n (omega arith) x .0)
-      one x m (yes e) = absurd (go (decLt x 256))
+      one x m (yes e) = absurd (go (decLt x size))
         where
-          go : Dec (x < 256) → ⊥
+          go : Dec (x < size) → ⊥
           go (yes l) =
               T-not (flag (unmarked (front n places) marks) x)
-              (all-at _ 256 (right-of (all n (fresh places marks)) _ t) x l)
+              (all-at _ size (right-of (all n (fresh places marks)) _ t) x l)
               (says-left (λ y. y) x (front n places) marks m (λ y h q. let z : times y (front n places) ≡ 0 = rw q e in omega arith))
           go (no l) = subst T (List·getD-eq-default marks false (omega arith)) m
 
-  pub says-once : Once places n marks → T (once-each places n marks)
+  pub says-once : Once places n marks → T (once-each size places n marks)
   unfolding once-each none-left
   says-once o =
       both (all n (fresh places marks)) _ (all-intro (fresh places marks) n new)
-      (all-intro _ 256 (λ x l. not-T (flag (unmarked (front n places) marks) x) (λ t. missed x (left-says (λ y. y) x (front n places) marks t))))
+      (all-intro _ size (λ x l. not-T (flag (unmarked (front n places) marks) x) (λ t. missed x (left-says (λ y. y) x (front n places) marks t))))
     where
       new : (k : ℕ) → k < n → T (fresh places marks k)
       new k h =

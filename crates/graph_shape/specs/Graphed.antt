@@ -6,18 +6,19 @@ use mathlib.Core.List.{List}
 use mathlib.Core.Path.{_≡_}
 use Prim.Native.Nat.{ℕ, _<_}
 use lib.Dec.{T, leb, ltb}
-use lib.ListN.{set, length}
+use lib.ListN.{set}
 use Rattle.loops.specs.Listing.{front}
 use Rattle.graph.specs.Graph.{no-bits}
 use Rattle.nodes.specs.Nodes.{col, flag, row}
 use Rattle.nodes.specs.Columns.{Columns}
 use Rattle.graph_sweeps.specs.Swept.{inside, tied}
+use Rattle.sizes.specs.Sizes.{BLOCKS}
 use Rattle.graph_lists.specs.Listed.{laid, childless, rising, bare}
 
 -- counts within sizes; the base is a block of the table, and a node
 unfoldable pub counted : ℕ → ℕ → List Bool → ℕ → ℕ → Bool
 counted count base used listed tips =
-    leb count 256 && (leb listed 256 && (leb tips 256 && (ltb base count && flag used base)))
+    leb count BLOCKS && (leb listed BLOCKS && (leb tips BLOCKS && (ltb base count && flag used base)))
 
 -- the nodes but the base
 abbrev pub others : List Bool → ℕ → List Bool
@@ -29,21 +30,12 @@ graphed parents ids base count g =
     counted count base (g .used) (g .listed) (g .tips)
     && (inside parents count base (g .used)
     && (tied parents (g .used) (others (g .used) base) (g .above)
-    && (laid (g .order) (g .listed) (others (g .used) base)
-    && (laid (g .heads) (g .tips) (childless (g .used) (g .above) (front (g .listed) (g .order)))
+    && (laid BLOCKS (g .order) (g .listed) (others (g .used) base)
+    && (laid BLOCKS (g .heads) (g .tips) (childless (g .used) (g .above) (front (g .listed) (g .order)))
     && (rising ids (g .heads) (g .tips) && bare (g .used) (g .rows))))))
-
--- what the arrays are by their types
-pub record Sized (g : Columns) : Type 0 where
-  pub used-size : length (g .used) ≡ 256
-  pub above-size : length (g .above) ≡ 256
-  pub rows-size : length (g .rows) ≡ 256
-  pub row-size : (x : ℕ) → x < 256 → length (row (g .rows) x) ≡ 2
-  pub order-size : length (g .order) ≡ 256
-  pub heads-size : length (g .heads) ≡ 256
 
 -- what `Sound` leaves open: unused places 0
 pub record Clear (base : ℕ) (g : Columns) : Type 0 where
   pub base-above : col (g .above) base ≡ 0
   pub bare-above : (k : ℕ) → T (not (flag (g .used) k)) → col (g .above) k ≡ 0
-  pub bare-rows : (k : ℕ) → k < 256 → T (not (flag (g .used) k)) → row (g .rows) k ≡ no-bits
+  pub bare-rows : (k : ℕ) → k < BLOCKS → T (not (flag (g .used) k)) → row (g .rows) k ≡ no-bits

@@ -1,25 +1,29 @@
 // The shape rules of a vote graph that is handed in, tested on lent columns.
 ghost use mathlib.Core.Path.{_≡_};
+ghost use Rattle.lent.specs.Moment.{before};
 ghost use Rattle.nodes.specs.Nodes.{Falls};
+ghost use Rattle.nodes.specs.Columns.{graph-at};
 ghost use Rattle.graph_shape.specs.Graphed.{counted, others, graphed};
 use climbs::wide;
+use sizes::BLOCKS;
+use sizes::WORDS;
 
 // Whether the columns of a vote graph keep its shape rules, on a table of `count` blocks by their parents and ids.
 pub fn is_graph<'a>(
-    parents: &'a [u8; 256],
-    ids: &'a [u32; 256],
+    parents: &'a [u8; BLOCKS],
+    ids: &'a [u32; BLOCKS],
     count: usize,
     base: u8,
-    used: &'a [bool; 256],
-    above: &'a [u8; 256],
-    rows: &'a [[u64; 2]; 256],
-    order: &'a [u8; 256],
+    used: &'a [bool; BLOCKS],
+    above: &'a [u8; BLOCKS],
+    rows: &'a [[u64; WORDS]; BLOCKS],
+    order: &'a [u8; BLOCKS],
     listed: usize,
-    heads: &'a [u8; 256],
+    heads: &'a [u8; BLOCKS],
     tips: usize,
 ) -> bool
     requires { ⌜ Falls (now parents) ⌝ }
-    ensures { λ r. ⌜ r ≡ graphed (now (parents .entry)) (now (ids .entry)) base count (record { used = now (used .entry); above = now (above .entry); rows = now (rows .entry); order = now (order .entry); listed = listed; heads = now (heads .entry); tips = tips }) ⌝ }
+    ensures { λ r. ⌜ r ≡ graphed (now (parents .entry)) (now (ids .entry)) base count (graph-at before used above rows order listed heads tips) ⌝ }
 {
     if !counted(count, base, used, listed, tips) {
         return false;
@@ -44,16 +48,16 @@ pub fn is_graph<'a>(
     graph_lists::bare(used, rows)
 }
 
-fn counted(count: usize, base: u8, used: &[bool; 256], listed: usize, tips: usize) -> bool
+fn counted(count: usize, base: u8, used: &[bool; BLOCKS], listed: usize, tips: usize) -> bool
     ensures { λ r. ⌜ r ≡ counted count base (now (used .entry)) listed tips ⌝ }
 {
-    if 256 < count {
+    if BLOCKS < count {
         return false;
     }
-    if 256 < listed {
+    if BLOCKS < listed {
         return false;
     }
-    if 256 < tips {
+    if BLOCKS < tips {
         return false;
     }
     let at = wide(base);
@@ -63,7 +67,7 @@ fn counted(count: usize, base: u8, used: &[bool; 256], listed: usize, tips: usiz
     used[at]
 }
 
-fn others(used: &[bool; 256], base: u8) -> [bool; 256]
+fn others(used: &[bool; BLOCKS], base: u8) -> [bool; BLOCKS]
     ensures { λ r. ⌜ r ≡ others (now (used .entry)) base ⌝ }
 {
     let mut rest = *used;

@@ -9,6 +9,7 @@ use lib.Dec.{eqb, ltb}
 use lib.ListN.{getD, set, length, replicate, length-set}
 use lib.Seq.{getD-set-same, getD-set-other}
 use borrow.Author.Tests.{eq-eqb, ne-eqb, lt-ltb, le-ltb}
+use Rattle.sizes.specs.Sizes.{BLOCKS}
 use Rattle.loops.proofs.Tests.{true-T, false-not, same-test}
 use Rattle.grandpa.specs.Tree.{below}
 use Rattle.grandpa.proofs.Trees.{below-refl, below-up, below-trans, below-le, below-step}
@@ -42,16 +43,16 @@ module _ (up : ℕ → ℕ) (falls : (k : ℕ) → up k ≤ pred k) where
 
 -- a column that says of the places before k whether they are at or below b
 pub record Under (up : ℕ → ℕ) (b : ℕ) (under : List Bool) (k : ℕ) : Type 0 where
-  pub sized : length under ≡ 256
+  pub sized : length under ≡ BLOCKS
   pub says : (j : ℕ) → j < k → getD under j false ≡ below up b j
 
 -- the nearest node of the places before k, and of the root
 pub record Near (up : ℕ → ℕ) (used : ℕ → Bool) (near : List ℕ) (k : ℕ) : Type 0 where
-  pub sized : length near ≡ 256
+  pub sized : length near ≡ BLOCKS
   pub says : (j : ℕ) → j ≤ pred k → getD near j 0 ≡ nearest up used j
 
 module _ (up : ℕ → ℕ) (falls : (k : ℕ) → up k ≤ pred k) where
-  pub under-none : (b : ℕ) → Under up b (replicate 256 false) 0
+  pub under-none : (b : ℕ) → Under up b (replicate BLOCKS false) 0
   under-none b = record { sized = refl; says = λ j h. absurd (omega arith) }
 
   pub under-here : (b k top over : ℕ) (under : List Bool) → Under up b under k → top ≡ b → over ≡ up k
@@ -64,7 +65,7 @@ module _ (up : ℕ → ℕ) (falls : (k : ℕ) → up k ≤ pred k) where
           rw l (rw l at (below-turn up falls b k))
       go (no n) = rw (u .says (up k) (omega (arith, falls k))) (below-turn up falls b k)
 
-  pub under-more : (b k : ℕ) (under : List Bool) (low : Bool) → k < 256 → Under up b under k → low ≡ below up b k
+  pub under-more : (b k : ℕ) (under : List Bool) (low : Bool) → k < BLOCKS → Under up b under k → low ≡ below up b k
       → Under up b (set under k low) (k + 1)
   under-more b k under low h u e =
       record { sized = simp length-set (u .sized); says = λ j l. go j l (ℕ-discrete j k) }
@@ -73,18 +74,18 @@ module _ (up : ℕ → ℕ) (falls : (k : ℕ) → up k ≤ pred k) where
       go j l (yes q) = rw q (getD-set-same under k low false (omega (arith, u .sized)) ∙ e)
       go j l (no q) = getD-set-other under k j low false q ∙ u .says j (omega arith)
 
-  pub near-none : (used : ℕ → Bool) → Near up used (replicate 256 0) 0
+  pub near-none : (used : ℕ → Bool) → Near up used (replicate BLOCKS 0) 0
   unfolding nearest
   near-none used = record { sized = refl; says = λ j h. root j (omega arith) }
     where
-      root : (j : ℕ) → j ≡ 0 → getD (replicate 256 0) j 0 ≡ nearest up used j
+      root : (j : ℕ) → j ≡ 0 → getD (replicate BLOCKS 0) j 0 ≡ nearest up used j
       root j e = rw e (sym (until-root up falls used))
 
   pub near-over : (used : ℕ → Bool) (k over : ℕ) (near : List ℕ) → Near up used near k → over ≡ up k
       → getD near over 0 ≡ nearest up used (up k)
   near-over used k over near n w = rw w (n .says (up k) (falls k))
 
-  pub near-more : (used : ℕ → Bool) (k over x : ℕ) (near : List ℕ) → k < 256 → Near up used near k → over ≡ up k
+  pub near-more : (used : ℕ → Bool) (k over x : ℕ) (near : List ℕ) → k < BLOCKS → Near up used near k → over ≡ up k
       → x ≡ cond (used k) k (getD near over 0) → Near up used (set near k x) (k + 1)
   near-more used k over x near h n w e =
       record { sized = simp length-set (n .sized); says = λ j l. go j l (ℕ-discrete j k) }

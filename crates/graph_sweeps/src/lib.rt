@@ -4,18 +4,25 @@ ghost use mathlib.Core.Path.{_≡_};
 ghost use mathlib.Core.Bool.{cond, not, _&&_, _||_};
 ghost use Prim.Native.Nat.{_<_};
 ghost use lib.Dec.{eqb, ltb};
+ghost use Rattle.sizes.specs.Sizes.{BLOCKS};
 ghost use Rattle.nodes.specs.Nodes.{Falls};
 ghost use Rattle.graph_sweeps.specs.Swept.{inside, tied};
 use climbs::wide;
+use sizes::BLOCKS;
 
 // One sweep finds the blocks at or below the base.
-pub fn inside<'a>(parents: &'a [u8; 256], count: usize, base: u8, used: &'a [bool; 256]) -> bool
+pub fn inside<'a>(
+    parents: &'a [u8; BLOCKS],
+    count: usize,
+    base: u8,
+    used: &'a [bool; BLOCKS],
+) -> bool
     requires { ⌜ Falls (now parents) ⌝ }
     ensures { λ r. ⌜ r ≡ inside (now (parents .entry)) count base (now (used .entry)) ⌝ }
 {
     let top = wide(base);
-    let mut under = [false; 256];
-    for k in 0..256 {
+    let mut under = [false; BLOCKS];
+    for k in 0..BLOCKS {
         let low = is_under(top, k, under[wide(parents[k])]);
         if !is_inside(used[k], k, count, low) {
             return false;
@@ -52,16 +59,16 @@ fn is_inside(node: bool, k: usize, count: usize, low: bool) -> bool
 
 // One sweep finds the nearest node at or above each block.
 pub fn tied<'a>(
-    parents: &'a [u8; 256],
-    used: &'a [bool; 256],
-    rest: &'a [bool; 256],
-    above: &'a [u8; 256],
+    parents: &'a [u8; BLOCKS],
+    used: &'a [bool; BLOCKS],
+    rest: &'a [bool; BLOCKS],
+    above: &'a [u8; BLOCKS],
 ) -> bool
     requires { ⌜ Falls (now parents) ⌝ }
     ensures { λ r. ⌜ r ≡ tied (now (parents .entry)) (now (used .entry)) (now (rest .entry)) (now (above .entry)) ⌝ }
 {
-    let mut near = [0u8; 256];
-    for k in 0..256 {
+    let mut near = [0u8; BLOCKS];
+    for k in 0..BLOCKS {
         let over = near[wide(parents[k])];
         if !is_tied(above[k], rest[k], over) {
             return false;
@@ -81,7 +88,7 @@ fn is_tied(above: u8, listed: bool, over: u8) -> bool
 }
 
 fn node_or(node: bool, k: usize, over: u8) -> u8
-    requires { ⌜ k < 256 ⌝ }
+    requires { ⌜ k < BLOCKS ⌝ }
     ensures { λ r. ⌜ r ≡ cond node k over ⌝ }
 {
     if node {

@@ -2,6 +2,7 @@
 ghost use mathlib.Core.Path.{_≡_};
 ghost use Prim.Native.Nat.{_≤_};
 ghost use lib.ListN.{length, drop};
+ghost use Rattle.sizes.specs.Sizes.{BLOCKS};
 ghost use Rattle.marks.specs.declared.Mark.the-variants.{Bk};
 ghost use Rattle.marks.specs.declared.Turn.the-variants.{Over};
 ghost use Rattle.marks.specs.Marks.{size};
@@ -15,6 +16,7 @@ use marks::End;
 use marks::Mark;
 use marks::Record;
 use marks::Turn;
+use sizes::BLOCKS;
 
 // The blocks after a record, and whether the turn goes on.
 pub struct Took {
@@ -51,15 +53,15 @@ fn turn(answer: Answer) -> Turn
 
 // A Bk record: a block, and its parent.
 pub fn add(
-    ids: &mut [u32; 256],
-    numbers: &mut [u32; 256],
-    parents: &mut [u8; 256],
+    ids: &mut [u32; BLOCKS],
+    numbers: &mut [u32; BLOCKS],
+    parents: &mut [u8; BLOCKS],
     blocks: usize,
     fields: &[u8],
 ) -> Took
-    requires { ⌜ (blocks ≤ 256) × (length (now fields) ≡ 8) ⌝ }
+    requires { ⌜ (blocks ≤ BLOCKS) × (length (now fields) ≡ 8) ⌝ }
     ensures { λ r. ⌜ _≡_ {A = Tried BlockTable} (record { state = record { ids = now (ids .exit); numbers = now (numbers .exit); parents = now (parents .exit); count = r .blocks }; turn = r .turn }) (tried grown (record { ids = now (ids .entry); numbers = now (numbers .entry); parents = now (parents .entry); count = blocks }) Bk (now (fields .entry))) ⌝ }
-    ensures { λ r. ⌜ r .blocks ≤ 256 ⌝ }
+    ensures { λ r. ⌜ r .blocks ≤ BLOCKS ⌝ }
 {
     let id = marks::word(fields, 0);
     let parent = marks::word(fields, 4);
@@ -72,9 +74,9 @@ pub fn add(
 
 // The same beside slots of the ids, which spare the searches.
 fn grow(
-    ids: &mut [u32; 256],
-    numbers: &mut [u32; 256],
-    parents: &mut [u8; 256],
+    ids: &mut [u32; BLOCKS],
+    numbers: &mut [u32; BLOCKS],
+    parents: &mut [u8; BLOCKS],
     slots: &mut [u8; 1024],
     blocks: usize,
     fields: &[u8],
@@ -94,9 +96,9 @@ fn grow(
 
 // A record in the second turn.
 fn take(
-    ids: &mut [u32; 256],
-    numbers: &mut [u32; 256],
-    parents: &mut [u8; 256],
+    ids: &mut [u32; BLOCKS],
+    numbers: &mut [u32; BLOCKS],
+    parents: &mut [u8; BLOCKS],
     slots: &mut [u8; 1024],
     blocks: usize,
     mark: Mark,
@@ -118,15 +120,15 @@ fn take(
 
 // The records of some bytes, up to the first that is not one of this turn.
 pub fn run(
-    ids: &mut [u32; 256],
-    numbers: &mut [u32; 256],
-    parents: &mut [u8; 256],
+    ids: &mut [u32; BLOCKS],
+    numbers: &mut [u32; BLOCKS],
+    parents: &mut [u8; BLOCKS],
     count: usize,
     bytes: &[u8],
 ) -> Grown
-    requires { ⌜ (count ≤ 256) × (length (now ids) ≡ 256) ⌝ }
+    requires { ⌜ (count ≤ BLOCKS) × (length (now ids) ≡ BLOCKS) ⌝ }
     ensures { λ r. ⌜ _≡_ {A = Run BlockTable} (record { state = record { ids = now (ids .exit); numbers = now (numbers .exit); parents = now (parents .exit); count = r .blocks }; count = r .count; rest = drop (r .at) (now (bytes .entry)); end = r .end }) (ran grown (record { ids = now (ids .entry); numbers = now (numbers .entry); parents = now (parents .entry); count = count }) (now (bytes .entry))) ⌝ }
-    ensures { λ r. ⌜ (r .blocks ≤ 256) × (r .count ≤ r .at) × (r .at ≤ length (now (bytes .entry))) ⌝ }
+    ensures { λ r. ⌜ (r .blocks ≤ BLOCKS) × (r .count ≤ r .at) × (r .at ≤ length (now (bytes .entry))) ⌝ }
 {
     let mut slots = [0u8; 1024];
     block_index::index(ids, &mut slots, count);

@@ -17,9 +17,9 @@ use Rattle.nodes.specs.Nodes.{col}
 use Rattle.answer_laws.specs.Seats.{Seated}
 use Rattle.answer_laws.proofs.Kept.{phase-seated}
 use Rattle.answer_laws.proofs.Extended.{sound-more, extended-faithful}
-use Rattle.importing.specs.Import.{Frame, Held, scene}
+use Rattle.importing.specs.Import.{Frame, with-table, Held, scene}
 use Rattle.held_laws.specs.Kept.{setting, Kept}
-use Rattle.held_laws.specs.Reached.{with-table, sought}
+use Rattle.held_laws.specs.Reached.{sought}
 use Rattle.held_laws.proofs.Parts.{kept-faithful, faithful-kept}
 
 module _ (f : Frame) (h : Held) (k : Kept f h) where

@@ -10,7 +10,6 @@ use Rattle.grandpa.specs.Answers.{Told, told-from, told}
 use Rattle.grandpa.specs.Time as time
 use Rattle.grandpa.proofs.Kept.{told-kept}
 use Rattle.voter_laws.proofs.Goods.{total-used}
-use Rattle.blocks.specs.declared.BlockTable.{BlockTable}
 use Rattle.context.specs.declared.Phase.the-variants.{Prevote, Precommit}
 use Rattle.context.specs.Votes.{bit}
 use Rattle.nodes.specs.declared.Found.{Found}
@@ -21,13 +20,13 @@ use Rattle.answer_laws.specs.Faithful.{Setting, table, voters, votes, stored}
 use Rattle.answer_laws.specs.Tells.{Tells}
 use Rattle.answer_laws.proofs.Ghosted.{votes-placed}
 use Rattle.answer_laws.proofs.Stays.{tells-meant, within-stored}
-use Rattle.importing.specs.Import.{Frame, Held}
+use Rattle.importing.specs.Import.{Frame, with-table, Held}
 use Rattle.held_laws.specs.Kept.{setting, Kept}
-use Rattle.held_laws.specs.Reached.{with-table, Comes, Reached}
+use Rattle.held_laws.specs.Reached.{Comes, Reached}
 use Rattle.held_laws.specs.Answered.{as-option, answered}
 use Rattle.held_laws.proofs.Parts.{kept-faithful}
-use Rattle.held_laws.proofs.Reaches.{comes-kept, reached-kept}
-use Rattle.held_laws.proofs.Tells.{comes-tells, reached-tells}
+use Rattle.held_laws.proofs.Reaches.{comes-kept, comes-framed, reached-kept}
+use Rattle.held_laws.proofs.Tells.{Telling, comes-tells, reached-tells}
 use Rattle.held_laws.proofs.Onward.{comes-grown, comes-later}
 
 found-again : (o : Option ℕ) → as-option (as-found o) ≡ o
@@ -63,14 +62,15 @@ module _ (f : Frame) (h : Held) (r : Reached f h) (some-weight : 0 < f .voters .
       ∙ answered-stored (h .answers .precommit) _
 
   -- demand 3, whoever equivocates among the prevotes
-  pub reached-stays : (t : BlockTable) (i : Held) → Comes f h t i
-      → time.Kept (col (t .parents)) (equivocators (voters (setting f i)) (votes (setting f i) Precommit) ≤ fault (f .voters .total)) (answered (h .answers))
+  pub reached-stays : (later : Frame) (i : Held) → Comes f h later i
+      → time.Kept (col (later .table .parents)) (equivocators (voters (setting f i)) (votes (setting f i) Precommit) ≤ fault (f .voters .total)) (answered (h .answers))
       (answered (i .answers))
-  reached-stays t i c =
-      let g = with-table f t in
+  reached-stays later i c =
+      let g = with-table f (later .table) in
+      let framed = comes-framed f h later i c in
       let x = reached-tells f h r some-weight in
-      let y = comes-tells f h kept (x .0) (x .1) t i c in
-      let after : Kept g i = comes-kept f h kept t i c in
+      let y = subst (λ (z : Frame). Telling z i (x .0)) framed (comes-tells f h kept (x .0) (x .1) later i c) in
+      let after : Kept g i = subst (λ (z : Frame). Kept z i) framed (comes-kept f h kept later i c) in
       let was = kept-faithful f h kept in
       let is = kept-faithful g i after in
       let n = total (voters (setting f h)) in
@@ -79,9 +79,9 @@ module _ (f : Frame) (h : Held) (r : Reached f h) (some-weight : 0 < f .voters .
       (subst (Stay n (told-from (voters (setting f h)) (table (setting f h)) (f .base) (votes (setting f h) Prevote) (votes (setting f h) Precommit) (x .0)))
       (sym (tells-answered (setting g i) (y .0) (i .answers) (y .2)))
       (told-kept (voters (setting f h)) (omega (arith, whole)) (f .base) (table (setting f h)) (table (setting g i)) (kept .table .tree) (after .table .tree)
-      (comes-grown f h kept t i c) (votes (setting f h) Prevote) (votes (setting g i) Prevote) (votes (setting f h) Precommit) (votes (setting g i) Precommit)
+      (comes-grown f h kept later i c) (votes (setting f h) Prevote) (votes (setting g i) Prevote) (votes (setting f h) Precommit) (votes (setting g i) Precommit)
       (votes-placed (setting f h) was Prevote) (votes-placed (setting f h) was Precommit) (votes-placed (setting g i) is Precommit)
-      (λ p l. comes-later f h kept t i c (bit Precommit p)) (x .0) (y .0) (within-stored (setting f h) was (x .0) (x .1 .within)) (y .1))))
+      (λ p l. comes-later f h kept later i c (bit Precommit p)) (x .0) (y .0) (within-stored (setting f h) was (x .0) (x .1 .within)) (y .1))))
     where
       Stay : ℕ → Told → Told → Type 0
-      Stay m a b = time.Kept (col (t .parents)) (equivocators (voters (setting f i)) (votes (setting f i) Precommit) ≤ fault m) a b
+      Stay m a b = time.Kept (col (later .table .parents)) (equivocators (voters (setting f i)) (votes (setting f i) Precommit) ≤ fault m) a b

@@ -15,7 +15,7 @@ use Rattle.answer_laws.proofs.Kept.{told-seated}
 use Rattle.importing.specs.Import.{Frame, Held, scene, updated, with-first, with-second, apply, verdict, import}
 use Rattle.held_laws.specs.Kept.{setting, Kept, Untaken}
 use Rattle.held_laws.proofs.Parts.{faithful-kept}
-use Rattle.held_laws.proofs.Votes.{bit-fits}
+use Rattle.held_laws.proofs.Votes.{place-fits}
 use Rattle.held_laws.proofs.Steps.{first-silent, first-in-set, first-in-base, first-in-table, first-apart, first-few, first-kept-faithful, second-once, second-in-set, second-few, second-kept-faithful}
 
 module _ (f : Frame) (h : Held) (k : Kept f h) (phase : Phase) (signer : ℕ) (p : Pair) where
@@ -34,8 +34,8 @@ module _ (f : Frame) (h : Held) (k : Kept f h) (phase : Phase) (signer : ℕ) (p
       (clear-inserted (f .table .parents) (f .table .ids) (f .base) (f .table .count) b in-base in-table (h .graph) (k .sound) (k .clear) apart j)
       (wide-first (h .votes) (k .wide) j b (p .signature))
       (tidy-first (f .voters .count) (h .votes) (k .wide) j few
-      (bit-fits phase (v .position) (f .voters .count) (first-in-set f h k phase signer p v b e)) (k .recorded .tidy) b (p .signature) quiet)
-      (written-first (h .votes) (k .wide .times-size) (h .entries) (h .count) (k .recorded .history) j b (p .signature) few quiet)
+      (place-fits phase (v .position) (f .voters .count) (first-in-set f h k phase signer p v b e)) (k .recorded .tidy) b (p .signature) quiet)
+      (written-first (h .votes) (k .wide .counts-size) (h .entries) (h .count) (k .recorded .history) j b (p .signature) few quiet)
       (told-seated (scene f next) (f .table .ids) (f .table .count) (setting f next .cast) (k .table .tree .falls) (faith .shape) (k .table .few) (f .voters .total)
       (next .heard) phase (h .answers) (k .seated))
 
@@ -49,8 +49,8 @@ module _ (f : Frame) (h : Held) (k : Kept f h) (phase : Phase) (signer : ℕ) (p
       faithful-kept f (updated f phase next) faith (k .table) (k .sound) (k .clear)
       (wide-second (h .votes) (k .wide) j (p .target) (p .number) (p .signature))
       (tidy-second (f .voters .count) (h .votes) (k .wide) j few
-      (bit-fits phase (v .position) (f .voters .count) (second-in-set f h k phase signer p v a e)) (k .recorded .tidy) (p .target) (p .number) (p .signature) spoken)
-      (written-second (h .votes) (k .wide .times-size) (h .entries) (h .count) (k .recorded .history) j (p .target) (p .number) (p .signature) few spoken)
+      (place-fits phase (v .position) (f .voters .count) (second-in-set f h k phase signer p v a e)) (k .recorded .tidy) (p .target) (p .number) (p .signature) spoken)
+      (written-second (h .votes) (k .wide .counts-size) (h .entries) (h .count) (k .recorded .history) j (p .target) (p .number) (p .signature) few spoken)
       (told-seated (scene f next) (f .table .ids) (f .table .count) (setting f next .cast) (k .table .tree .falls) (faith .shape) (k .table .few) (f .voters .total)
       (next .heard) phase (h .answers) (k .seated))
 

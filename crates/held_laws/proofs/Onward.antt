@@ -5,7 +5,6 @@ use native.Mathlib.Omega.{arith}
 use Rattle.grandpa.specs.Tree.{Blocks}
 use Rattle.grandpa.specs.Vote.{Vote, silent, once, twice}
 use Rattle.grandpa.specs.Time.{Later, any-yet, the-same, a-second, no-third, Grown}
-use Rattle.blocks.specs.declared.BlockTable.{BlockTable}
 use Rattle.blocks.specs.Table.{blocks}
 use Rattle.blocks.specs.Add.{step}
 use Rattle.context.specs.declared.Phase.{Phase}
@@ -19,7 +18,7 @@ use Rattle.answer_laws.specs.Faithful.{Setting}
 use Rattle.answer_laws.proofs.Recorded.{first-follows, second-follows}
 use Rattle.importing.specs.Import.{Frame, Held, apply, verdict, import}
 use Rattle.held_laws.specs.Kept.{setting, Kept}
-use Rattle.held_laws.specs.Reached.{with-table, Comes, here, voted, added, asked}
+use Rattle.held_laws.specs.Reached.{Comes, here, voted, added, asked}
 use Rattle.held_laws.proofs.Parts.{kept-faithful}
 use Rattle.held_laws.proofs.Steps.{first-quiet, first-in-set, first-in-base, first-in-table, first-apart, setting-first, second-in-set, second-spoken, setting-second}
 use Rattle.held_laws.proofs.Adds.{step-grown}
@@ -65,21 +64,20 @@ import-later f h k phase signer p j = go (verdict f phase signer p h) refl
     go (Second v a) e =
         subst Next (sym (setting-second f h k phase signer p v a e))
         (second-follows (setting f h) (kept-faithful f h k) phase (v .position) (second-in-set f h k phase signer p v a e)
-        (col (h .votes .places) (bit phase (v .position))) (second-spoken f h k phase signer p v a e) .later j)
+        (col (h .votes .«first_block») (bit phase (v .position))) (second-spoken f h k phase signer p v a e) .later j)
 
 module _ (f : Frame) (h : Held) (k : Kept f h) where
-  pub comes-grown : (t : BlockTable) (i : Held) → Comes f h t i → Grown (blocks (f .table)) (blocks t)
+  pub comes-grown : (g : Frame) (i : Held) → Comes f h g i → Grown (blocks (f .table)) (blocks (g .table))
   comes-grown _ _ here = grown-same (blocks (f .table))
-  comes-grown t _ (voted _ i c phase signer p) = comes-grown t i c
-  comes-grown _ i (added t _ c id parent) =
-      grown-trans (blocks (f .table)) (blocks t) (blocks (step t id parent .table)) (comes-grown t i c)
-      (step-grown (with-table f t) i (comes-kept f h k t i c) id parent)
-  comes-grown t _ (asked _ i c) = comes-grown t i c
+  comes-grown g _ (voted _ i c phase signer p) = comes-grown g i c
+  comes-grown _ i (added g _ c id parent) =
+      grown-trans (blocks (f .table)) (blocks (g .table)) (blocks (step (g .table) id parent .table)) (comes-grown g i c)
+      (step-grown g i (comes-kept f h k g i c) id parent)
+  comes-grown g _ (asked _ i c) = comes-grown g i c
 
-  pub comes-later : (t : BlockTable) (i : Held) → Comes f h t i → (j : ℕ) → Later (cast (h .votes) j) (cast (i .votes) j)
+  pub comes-later : (g : Frame) (i : Held) → Comes f h g i → (j : ℕ) → Later (cast (h .votes) j) (cast (i .votes) j)
   comes-later _ _ here j = later-same (cast (h .votes) j)
-  comes-later t _ (voted _ i c phase signer p) j =
-      later-trans (cast (h .votes) j) (cast (i .votes) j) _ (comes-later t i c j)
-      (import-later (with-table f t) i (comes-kept f h k t i c) phase signer p j)
-  comes-later _ i (added t _ c id parent) j = comes-later t i c j
-  comes-later t _ (asked _ i c) j = comes-later t i c j
+  comes-later g _ (voted _ i c phase signer p) j =
+      later-trans (cast (h .votes) j) (cast (i .votes) j) _ (comes-later g i c j) (import-later g i (comes-kept f h k g i c) phase signer p j)
+  comes-later _ i (added g _ c id parent) j = comes-later g i c j
+  comes-later g _ (asked _ i c) j = comes-later g i c j

@@ -10,12 +10,14 @@ use Rattle.block_shape.specs.Shape.{Shaped}
 use Rattle.context.specs.declared.Phase.{Phase}
 use Rattle.context.specs.declared.Phase.the-variants.{Prevote, Precommit}
 use Rattle.context.specs.Votes.{bit}
+use Rattle.context.proofs.Places.{place-bit}
 use Rattle.nodes.specs.Nodes.{col}
 use Rattle.nodes.specs.Columns.{Sound}
 use Rattle.graph_shape.specs.Graphed.{Clear}
 use Rattle.tracker.specs.declared.Votes.{Votes}
 use Rattle.tracker.specs.Recorded.{cast-of, cast}
-use Rattle.vote_shape_laws.specs.Recorded.{Tidy, Written, Wide}
+use Rattle.tracker.specs.Votes.{Wide}
+use Rattle.vote_shape_laws.specs.Recorded.{Tidy, Written}
 use Rattle.vote_shape_laws.proofs.Keeps.{written-room}
 use Rattle.answer_laws.specs.Faithful.{voters, votes, heard-in, Faithful}
 use Rattle.answer_laws.specs.Seats.{All-seated}
@@ -24,9 +26,9 @@ use Rattle.importing.specs.Import.{Frame, Held, Ready}
 use Rattle.held_laws.specs.Kept.{setting, Kept}
 
 -- no pair, no vote
-pub cast-silent : (v : Votes) (j : ℕ) → col (v .times) j ≡ 0 → cast v j ≡ silent
+pub cast-silent : (v : Votes) (j : ℕ) → col (v .counts) j ≡ 0 → cast v j ≡ silent
 unfolding cast
-cast-silent v j e = ap (λ (n : ℕ). cast-of n (col (v .places) j)) e
+cast-silent v j e = ap (λ (n : ℕ). cast-of n (col (v .«first_block») j)) e
 
 module _ (f : Frame) (h : Held) where
   pub kept-faithful : Kept f h → Faithful (setting f h)
@@ -37,7 +39,8 @@ module _ (f : Frame) (h : Held) where
         tabled = k .table .tree;
         small = k .table .few;
         shape = record { nodes = k .sound .nodes; rows = k .recorded .bits; voted = k .recorded .nodes-voted };
-        no-voter = λ phase p l. cast-silent (h .votes) (bit phase p) (k .recorded .tidy .none-past (bit phase p) (omega arith));
+        only = k .recorded .nodes-only;
+        no-voter = λ phase p l. cast-silent (h .votes) (bit phase p) (k .recorded .tidy .none-past (bit phase p) (rw (place-bit phase p) l));
         two-words = k .recorded .equivocators .0;
         doubled = k .recorded .equivocators .1;
         prevotes-heard = k .prevotes-heard;
@@ -61,6 +64,7 @@ module _ (f : Frame) (h : Held) where
               tidy = tidy;
               base-used = sound .nodes .base-used;
               nodes-voted = k .shape .voted;
+              nodes-only = k .only;
               bits = k .shape .rows;
               equivocators = (k .two-words, k .doubled);
               history = written;
@@ -82,7 +86,7 @@ module _ (f : Frame) (h : Held) where
         sound = k .sound;
         apart = kept-apart k;
         stored = seated-in (f .table .parents) (f .base) (f .table .count) (h .answers .prevote) (k .seated .prevote);
-        room = written-room (h .votes) (k .wide .times-size) (h .entries) (h .count) (k .recorded .history);
+        room = written-room (h .votes) (k .wide .counts-size) (h .entries) (h .count) (k .recorded .history);
       }
 
   -- in each phase the voters heard and the others make the whole

@@ -5,6 +5,7 @@ use Prim.Native.Nat.{ℕ, _≤_, _<_}
 use native.Mathlib.Omega.{arith}
 use lib.Dec.{T}
 use lib.ListN.{getD}
+use Rattle.sizes.specs.Sizes.{VOTES}
 use Rattle.weights.specs.Weights.{most}
 use Rattle.loops.proofs.Sums.{weigh-le}
 use Rattle.grandpa.specs.Tree.{below}
@@ -16,10 +17,12 @@ use Rattle.voter_laws.proofs.Goods.{total-used}
 use Rattle.context.specs.declared.Phase.{Phase}
 use Rattle.context.specs.declared.Phase.the-variants.{Prevote, Precommit}
 use Rattle.context.specs.Votes.{bit}
+use Rattle.context.proofs.Places.{bit-few}
 use Rattle.nodes.specs.Nodes.{col, flag}
 use Rattle.tracker.specs.declared.Pair.{Pair}
 use Rattle.tracker.specs.Recorded.{first-pair, cast}
-use Rattle.vote_shape_laws.specs.Recorded as column
+use Rattle.tracker.specs.Votes as column
+use Rattle.vote_shape_laws.proofs.Recordings.{cast-first}
 use Rattle.judging.specs.declared.Verdict.the-variants.{First, Second}
 use Rattle.judging.proofs.Voters.{position-inside}
 use Rattle.judging.proofs.Judged.{Aimed, judged-first, judged-second}
@@ -31,7 +34,7 @@ use Rattle.importing.specs.Import.{Frame, Held, with-first, with-second, verdic
 use Rattle.importing.proofs.Turns.{placed-in}
 use Rattle.held_laws.specs.Kept.{setting, Kept}
 use Rattle.held_laws.proofs.Parts.{cast-silent, kept-faithful, kept-apart}
-use Rattle.held_laws.proofs.Votes.{weight-there, bit-fits, cast-first, cast-second, cast-once, heard-louder}
+use Rattle.held_laws.proofs.Votes.{weight-there, cast-second, cast-once, heard-louder}
 
 -- heard weights fit
 heard-fits : (k : Setting) → Faithful k → (phase : Phase) → heard-in phase (k .heard) ≤ most
@@ -43,13 +46,13 @@ heard-fits k f Precommit =
 module _ (f : Frame) (h : Held) (k : Kept f h) (phase : Phase) (signer : ℕ) (p : Pair) where
   -- a first vote
   module _ (v : VoterInfo) (b : ℕ) (e : verdict f phase signer p h ≡ First v b) where
-    said : (look-up (f .voters .ids) (f .voters .weights) (f .voters .count) signer ≡ Voter v) × (col (h .votes .times) (bit phase (v .position)) ≡ 0)
+    said : (look-up (f .voters .ids) (f .voters .weights) (f .voters .count) signer ≡ Voter v) × (col (h .votes .counts) (bit phase (v .position)) ≡ 0)
         × Aimed (f .table .ids) (f .table .numbers) (f .table .parents) (f .table .count) (f .base) p b
     said =
         judged-first (f .voters .ids) (f .voters .weights) (f .voters .count) (f .table .ids) (f .table .numbers) (f .table .parents) (f .table .count)
         (f .base) (h .votes) phase signer p v b e
 
-    pub first-silent : col (h .votes .times) (bit phase (v .position)) ≡ 0
+    pub first-silent : col (h .votes .counts) (bit phase (v .position)) ≡ 0
     first-silent = said .1
 
     pub first-quiet : votes (setting f h) phase (v .position) ≡ silent
@@ -67,8 +70,8 @@ module _ (f : Frame) (h : Held) (k : Kept f h) (phase : Phase) (signer : ℕ) (p
     pub first-apart : (y : ℕ) → T (flag (h .graph .used) y) → y ≢ b → col (f .table .ids) y ≢ col (f .table .ids) b
     first-apart y u d = kept-apart f h k y b (k .sound .nodes .tabled y u) first-in-table d
 
-    pub first-few : bit phase (v .position) < 128
-    first-few = omega (arith, bit-fits phase (v .position) (f .voters .count) first-in-set, k .good .few)
+    pub first-few : bit phase (v .position) < VOTES
+    first-few = bit-few phase (v .position) (omega (arith, first-in-set, k .good .few))
 
     faithful-first : Faithful (first-vote (setting f h) phase (v .position) b)
     faithful-first =
@@ -88,28 +91,28 @@ module _ (f : Frame) (h : Held) (k : Kept f h) (phase : Phase) (signer : ℕ) (p
 
   -- a second
   module _ (v : VoterInfo) (a : Pair) (e : verdict f phase signer p h ≡ Second v a) where
-    spoken : (look-up (f .voters .ids) (f .voters .weights) (f .voters .count) signer ≡ Voter v) × (col (h .votes .times) (bit phase (v .position)) ≡ 1)
-        × (a ≡ first-pair (h .votes .places) (h .votes .signatures) (f .table .ids) (f .table .numbers) (bit phase (v .position)))
+    spoken : (look-up (f .voters .ids) (f .voters .weights) (f .voters .count) signer ≡ Voter v) × (col (h .votes .counts) (bit phase (v .position)) ≡ 1)
+        × (a ≡ first-pair (h .votes .«first_block») (h .votes .«first_signature») (f .table .ids) (f .table .numbers) (bit phase (v .position)))
     spoken =
         judged-second (f .voters .ids) (f .voters .weights) (f .voters .count) (f .table .ids) (f .table .numbers) (f .table .parents) (f .table .count)
         (f .base) (h .votes) phase signer p v a e
 
-    pub second-once : col (h .votes .times) (bit phase (v .position)) ≡ 1
+    pub second-once : col (h .votes .counts) (bit phase (v .position)) ≡ 1
     second-once = spoken .1
 
     pub second-in-set : v .position < f .voters .count
     second-in-set = position-inside (f .voters .ids) (f .voters .weights) (f .voters .count) signer v (spoken .0)
 
-    pub second-few : bit phase (v .position) < 128
-    second-few = omega (arith, bit-fits phase (v .position) (f .voters .count) second-in-set, k .good .few)
+    pub second-few : bit phase (v .position) < VOTES
+    second-few = bit-few phase (v .position) (omega (arith, second-in-set, k .good .few))
 
-    pub second-spoken : votes (setting f h) phase (v .position) ≡ once (col (h .votes .places) (bit phase (v .position)))
+    pub second-spoken : votes (setting f h) phase (v .position) ≡ once (col (h .votes .«first_block») (bit phase (v .position)))
     second-spoken = cast-once (h .votes) (k .wide) (bit phase (v .position)) second-few second-once
 
     pub setting-second : setting f (with-second phase v p h)
-        ≡ second-vote (setting f h) phase (v .position) (col (h .votes .places) (bit phase (v .position)))
+        ≡ second-vote (setting f h) phase (v .position) (col (h .votes .«first_block») (bit phase (v .position)))
     setting-second =
-        let n = second-vote (setting f h) phase (v .position) (col (h .votes .places) (bit phase (v .position))) in
+        let n = second-vote (setting f h) phase (v .position) (col (h .votes .«first_block») (bit phase (v .position))) in
         ap (λ (c : ℕ → Vote). after (setting f h) (h .graph) (n .equivocations) (h .heard) c)
         (fun-ext (cast-second (h .votes) (k .wide) (bit phase (v .position)) second-few (p .target) (p .number) (p .signature)))
 

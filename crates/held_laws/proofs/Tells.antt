@@ -7,8 +7,8 @@ use lib.Dec.{T}
 use Rattle.grandpa.specs.Vote.{total}
 use Rattle.grandpa.specs.Time.{Down}
 use Rattle.grandpa.proofs.Trees.{below-refl, below-trans, below-same}
+use Rattle.voter_set.specs.declared.VoterSet.{VoterSet}
 use Rattle.voter_laws.proofs.Goods.{total-used}
-use Rattle.blocks.specs.declared.BlockTable.{BlockTable}
 use Rattle.blocks.specs.Add.{step}
 use Rattle.context.specs.declared.Phase.{Phase}
 use Rattle.context.specs.declared.Phase.the-variants.{Precommit}
@@ -24,14 +24,14 @@ use Rattle.answer_laws.specs.Tells.{Tells}
 use Rattle.answer_laws.proofs.Searched.{tabled-in}
 use Rattle.answer_laws.proofs.Stays.{opened-tells, precommit-beside, blocks-tell}
 use Rattle.answer_laws.proofs.Imported.{first-tells, second-tells}
-use Rattle.importing.specs.Import.{Frame, Held, scene, apply, verdict, import}
+use Rattle.importing.specs.Import.{Frame, with-table, Held, scene, apply, verdict, import, opened-held}
 use Rattle.held_laws.specs.Kept.{setting, Kept}
-use Rattle.held_laws.specs.Reached.{opened-held, with-table, sought, Comes, here, voted, added, asked, Reached}
+use Rattle.held_laws.specs.Reached.{sought, Comes, here, voted, added, asked, Reached}
 use Rattle.held_laws.proofs.Parts.{kept-faithful}
 use Rattle.held_laws.proofs.Opens.{no-cast, opened-kept}
 use Rattle.held_laws.proofs.Steps.{first-quiet, first-in-set, first-in-base, first-in-table, first-apart, setting-first, second-in-set, second-spoken, setting-second}
 use Rattle.held_laws.proofs.Adds.{step-grown}
-use Rattle.held_laws.proofs.Reaches.{comes-kept}
+use Rattle.held_laws.proofs.Reaches.{comes-kept, comes-voters}
 use Rattle.block_laws.proofs.Adds.{step-keeps}
 
 module _ (up : ℕ → ℕ) (falls : (k : ℕ) → up k ≤ pred k) where
@@ -74,7 +74,7 @@ module _ (f : Frame) (h : Held) (k : Kept f h) (o : Option ℕ) (t : Tells (sett
       go (Second v a) e =
           subst Next (sym (setting-second f h k phase signer p v a e))
           (second-tells (setting f h) (kept-faithful f h k) (v .position) (second-in-set f h k phase signer p v a e)
-          (col (h .votes .places) (bit phase (v .position))) o (h .answers) t phase (second-spoken f h k phase signer p v a e))
+          (col (h .votes .«first_block») (bit phase (v .position))) o (h .answers) t phase (second-spoken f h k phase signer p v a e))
 
   pub adding-tells : (id parent : ℕ) → Tells (setting (with-table f (step (f .table) id parent .table)) h) o (h .answers)
   adding-tells id parent =
@@ -86,30 +86,30 @@ module _ (f : Frame) (h : Held) (k : Kept f h) (o : Option ℕ) (t : Tells (sett
   sought-tells = precommit-beside (setting f h) o (h .answers) t (phase-ghost (scene f h) Precommit (h .heard .precommit) (h .answers .precommit))
 
 module _ (f : Frame) (h : Held) (k : Kept f h) (o : Option ℕ) (tells : Tells (setting f h) o (h .answers)) where
-  pub comes-tells : (t : BlockTable) (i : Held) → Comes f h t i → Telling (with-table f t) i o
+  pub comes-tells : (g : Frame) (i : Held) → Comes f h g i → Telling g i o
   comes-tells _ _ here = (o, down-same (col (f .table .parents)) (k .table .tree .falls) o, tells)
-  comes-tells t _ (voted _ i c phase signer p) =
-      let before = comes-tells t i c in
-      let kept = comes-kept f h k t i c in
-      let next = import-tells (with-table f t) i kept (before .0) (before .2) phase signer p in
-      (next .0, down-trans (col (t .parents)) (kept .table .tree .falls) o (before .0) (next .0) (before .1) (next .1), next .2)
-  comes-tells _ i (added t _ c id parent) =
-      let before = comes-tells t i c in
-      let kept = comes-kept f h k t i c in (
+  comes-tells g _ (voted _ i c phase signer p) =
+      let before = comes-tells g i c in
+      let kept = comes-kept f h k g i c in
+      let next = import-tells g i kept (before .0) (before .2) phase signer p in
+      (next .0, down-trans (col (g .table .parents)) (kept .table .tree .falls) o (before .0) (next .0) (before .1) (next .1), next .2)
+  comes-tells _ i (added g _ c id parent) =
+      let before = comes-tells g i c in
+      let kept = comes-kept f h k g i c in (
         before .0,
-        down-more (setting (with-table f t) i) (kept-faithful (with-table f t) i kept) (col (step t id parent .table .parents))
-            (step-grown (with-table f t) i kept id parent .same-up) o (before .0) (before .2 .within) (before .1),
-        adding-tells (with-table f t) i kept (before .0) (before .2) id parent,
+        down-more (setting g i) (kept-faithful g i kept) (col (step (g .table) id parent .table .parents)) (step-grown g i kept id parent .same-up) o
+            (before .0) (before .2 .within) (before .1),
+        adding-tells g i kept (before .0) (before .2) id parent,
       )
-  comes-tells t _ (asked _ i c) =
-      let before = comes-tells t i c in
-      (before .0, before .1, sought-tells (with-table f t) i (comes-kept f h k t i c) (before .0) (before .2))
+  comes-tells g _ (asked _ i c) =
+      let before = comes-tells g i c in (before .0, before .1, sought-tells g i (comes-kept f h k g i c) (before .0) (before .2))
 
 -- of a set with a weight: refusal 3 makes no other, and the shape rules do not say so
 pub reached-tells : (f : Frame) (h : Held) → Reached f h → 0 < f .voters .total → (o : Option ℕ) × Tells (setting f h) o (h .answers)
 reached-tells f h r some-weight =
-    let first = with-table f (r .table) in
-    let start = opened-held (f .base) in
-    let told = opened-tells (setting first start) no-cast (omega (arith, total-used (f .voters) (r .opens .good))) found.Nothing in
-    let x = comes-tells first start (opened-kept first (r .opens)) none told (f .table) h (r .calls) in
+    let first = r .start in
+    let start = opened-held (first .base) in
+    let weighs = subst (λ (v : VoterSet). 0 < v .total) (comes-voters first start f h (r .calls)) some-weight in
+    let told = opened-tells (setting first start) no-cast (omega (arith, weighs, total-used (first .voters) (r .opens .good))) found.Nothing in
+    let x = comes-tells first start (opened-kept first (r .opens)) none told f h (r .calls) in
     (x .0, x .2)

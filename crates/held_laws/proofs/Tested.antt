@@ -6,6 +6,7 @@ use native.Mathlib.Omega.{arith}
 use lib.Dec.{T, eqb, eqb→eq, ltb, ltb→lt}
 use lib.ListN.{length}
 use borrow.Author.Tests.{eq-eqb, lt-ltb}
+use Rattle.sizes.specs.Sizes.{HISTORY}
 use Rattle.loops.specs.Listing.{front}
 use Rattle.loops.proofs.Tests.{T-true, true-T, both, left-of, right-of}
 use Rattle.loops.proofs.Listings.{length-front}
@@ -27,12 +28,12 @@ use Rattle.nodes.specs.Nodes.{col, row}
 use Rattle.nodes.specs.Columns.{Sound}
 use Rattle.graph_shape.specs.Graphed.{Clear}
 use Rattle.tracker.specs.Recorded.{cast}
-use Rattle.vote_shape_laws.specs.Recorded.{Recorded, Wide}
+use Rattle.vote_shape_laws.specs.Recorded.{Recorded}
 use Rattle.vote_shape_laws.proofs.Means.{voted-means, means-voted}
 use Rattle.answer_shape.specs.Stored.{stored, all-stored, weighed}
 use Rattle.answer_laws.specs.Faithful.{voters, votes, heard-in}
 use Rattle.answer_laws.specs.Seats.{Seated, All-seated}
-use Rattle.importing.specs.Import.{Frame, Held}
+use Rattle.importing.specs.Import.{Frame, Held, Lengths}
 use Rattle.held_laws.specs.Kept.{setting, Kept}
 use Rattle.held_laws.specs.Tested.{Votes-pass, Weights-pass, Blocks-pass}
 
@@ -105,18 +106,18 @@ module _ (f : Frame) (h : Held) where
       (both (kept-in (h .answers .finalized)) _ (means-seat (h .answers .finalized) (s .finalized)) (means-seat (h .answers .estimate) (s .estimate))))
 
   pub tested-kept : Good (f .voters) → f .voters .total ≤ most → Shaped (f .table)
-      → Sound (f .table .parents) (f .table .ids) (f .base) (f .table .count) (h .graph) → Clear (f .base) (h .graph) → Wide (h .votes)
-      → length (h .equivocations) ≡ 2 → length (h .entries) ≡ 256 → Votes-pass f h → Weights-pass f h → Blocks-pass f h → Kept f h
-  tested-kept good fits table sound clear wide words entries v w b =
+      → Sound (f .table .parents) (f .table .ids) (f .base) (f .table .count) (h .graph) → Clear (f .base) (h .graph) → Lengths h
+      → Votes-pass f h → Weights-pass f h → Blocks-pass f h → Kept f h
+  tested-kept good fits table sound clear lengths v w b =
       let recorded = voted-means (f .voters .count) (f .table .parents) (f .base) (h .graph .used) (h .graph .rows) (h .votes) (h .equivocations) (h .entries) (h .count)
-      wide (record { used-size = sound .used-size; row-size = sound .row-size; words = words; entries-size = entries }) v in
+      (lengths .wide) (sound .sized .used-size) (sound .sized .row-size) (lengths .words) (lengths .entries-size) v in
       record {
         good = good;
         fits = fits;
         table = table;
         sound = sound;
         clear = clear;
-        wide = wide;
+        wide = lengths .wide;
         recorded = recorded;
         prevotes-heard = weighed-means good fits sound recorded w Prevote;
         precommits-heard = weighed-means good fits sound recorded w Precommit;
@@ -131,7 +132,12 @@ module _ (f : Frame) (h : Held) where
   )
 
   -- sizes that the types say in code
-  pub kept-entries : Kept f h → length (h .entries) ≡ 256
-  kept-entries k =
-      ap length (k .recorded .history .clear)
-      ∙ length-padded 256 (front (h .count) (h .entries)) (omega (arith, length-front (h .count) (h .entries), k .recorded .history .fits))
+  pub kept-lengths : Kept f h → Lengths h
+  kept-lengths k =
+      record {
+        wide = k .wide;
+        entries-size =
+            ap length (k .recorded .history .clear)
+            ∙ length-padded HISTORY (front (h .count) (h .entries)) (omega (arith, length-front (h .count) (h .entries), k .recorded .history .fits));
+        words = k .recorded .equivocators .0;
+      }

@@ -9,6 +9,8 @@ use lib.Dec.{eqb}
 use lib.ListN.{getD, set}
 use lib.Seq.{getD-set-same, getD-set-other}
 use borrow.Author.Tests.{eq-eqb, ne-eqb}
+use Rattle.sizes.specs.Sizes.{VOTES}
+use Rattle.layouts.specs.Layout.{index-place}
 use Rattle.weights.specs.Weights.{most, plus}
 use Rattle.columns.specs.declared.Found.{Found}
 use Rattle.columns.specs.declared.Found.the-variants as found
@@ -21,12 +23,13 @@ use Rattle.voter_info.proofs.Infos.{look-up-at, look-up-nothing, info-says}
 use Rattle.context.specs.declared.Phase.{Phase}
 use Rattle.context.specs.declared.Phase.the-variants.{Prevote, Precommit}
 use Rattle.context.specs.Votes.{bit}
+use Rattle.context.proofs.Places.{place-bit}
 use Rattle.graph.specs.Shape.{with-vote}
 use Rattle.nodes.specs.Nodes.{col}
 use Rattle.tracker.specs.declared.Votes.{Votes}
 use Rattle.tracker.specs.Recorded.{cast-of, cast}
-use Rattle.vote_shape_laws.specs.Recorded as column
-use Rattle.vote_shape_laws.specs.Recorded.{Wide}
+use Rattle.tracker.specs.Votes as column
+use Rattle.tracker.specs.Votes.{Wide}
 use Rattle.answers.specs.declared.Heard.{Heard}
 use Rattle.answer_laws.specs.Faithful.{heard-in}
 use Rattle.answer_laws.specs.Tells.{louder, with-second}
@@ -42,40 +45,28 @@ weight-there ids weights n x v e = go (find ids n x) refl
         ap (λ (z : VoterInfo). z .weight .0) (i .1) ∙ ap (λ (z : VoterInfo). getD weights (z .position) 0) (sym (i .1))
     go found.Nothing q = let o = look-up-nothing ids weights n x q in absurd (let z : _≡_ {A = ℕ} 0 1 = cc in omega arith)
 
--- the bit of a voter
-pub bit-fits : (phase : Phase) (p size : ℕ) → p < size → bit phase p < 2 * size
-bit-fits Prevote p size h = omega arith
-bit-fits Precommit p size h = omega arith
+-- the place of a voter's bit
+pub place-fits : (phase : Phase) (p size : ℕ) → p < size → index-place (bit phase p) < size
+place-fits phase p size h = rw (place-bit phase p) h
 
-module _ (v : Votes) (w : Wide v) (j : ℕ) (few : j < 128) where
-  cast-there : (n t : ℕ) → col (v .times) j ≡ n → col (v .places) j ≡ t → cast v j ≡ cast-of n t
+module _ (v : Votes) (w : Wide v) (j : ℕ) (few : j < VOTES) where
+  cast-there : (n t : ℕ) → col (v .counts) j ≡ n → col (v .«first_block») j ≡ t → cast v j ≡ cast-of n t
   unfolding cast
   cast-there n t e q = rw (e, q)
 
-  -- a first pair
-  pub cast-first : (t signature i : ℕ) → cast (column.with-first v j t signature) i ≡ with-vote (cast v) j t i
-  unfolding cast
-  cast-first t signature i = go (ℕ-discrete i j)
-    where
-      go : Dec (i ≡ j)
-          → cast-of (col (set (v .times) j 1) i) (col (set (v .places) j t) i) ≡ cond (eqb i j) (once t) (cast-of (col (v .times) i) (col (v .places) i))
-      go (yes e) =
-          rw (eq-eqb i j e, e, getD-set-same (v .times) j 1 0 (omega (arith, w .times-size)), getD-set-same (v .places) j t 0 (omega (arith, w .places-size)))
-      go (no n) = rw (ne-eqb i j n, getD-set-other (v .times) j i 1 0 n, getD-set-other (v .places) j i t 0 n)
-
   -- a second
   pub cast-second : (target number signature i : ℕ)
-      → cast (column.with-second v j target number signature) i ≡ with-second (cast v) j (col (v .places) j) i
+      → cast (column.with-second v j target number signature) i ≡ with-second (cast v) j (col (v .«first_block») j) i
   unfolding cast
   cast-second target number signature i = go (ℕ-discrete i j)
     where
       go : Dec (i ≡ j)
-          → cast-of (col (set (v .times) j 2) i) (col (v .places) i) ≡ cond (eqb i j) (twice (col (v .places) j)) (cast-of (col (v .times) i) (col (v .places) i))
-      go (yes e) = rw (eq-eqb i j e, e, getD-set-same (v .times) j 2 0 (omega (arith, w .times-size)))
-      go (no n) = rw (ne-eqb i j n, getD-set-other (v .times) j i 2 0 n)
+          → cast-of (col (set (v .counts) j 2) i) (col (v .«first_block») i) ≡ cond (eqb i j) (twice (col (v .«first_block») j)) (cast-of (col (v .counts) i) (col (v .«first_block») i))
+      go (yes e) = rw (eq-eqb i j e, e, getD-set-same (v .counts) j 2 0 (omega (arith, w .counts-size)))
+      go (no n) = rw (ne-eqb i j n, getD-set-other (v .counts) j i 2 0 n)
 
-  pub cast-once : col (v .times) j ≡ 1 → cast v j ≡ once (col (v .places) j)
-  cast-once e = cast-there 1 (col (v .places) j) e refl
+  pub cast-once : col (v .counts) j ≡ 1 → cast v j ≡ once (col (v .«first_block») j)
+  cast-once e = cast-there 1 (col (v .«first_block») j) e refl
 
 plus-fits : (a b : ℕ) → a + b ≤ most → plus a b ≡ a + b
 plus-fits a b h = omega arith

@@ -11,7 +11,8 @@ use Rattle.context.specs.declared.Phase.the-variants.{Prevote, Precommit}
 use Rattle.nodes.specs.Columns.{Sound}
 use Rattle.graph_shape.specs.Graphed.{Clear}
 use Rattle.tracker.specs.Recorded.{cast}
-use Rattle.vote_shape_laws.specs.Recorded.{Recorded, Wide}
+use Rattle.tracker.specs.Votes.{Wide}
+use Rattle.vote_shape_laws.specs.Recorded.{Recorded}
 use Rattle.answer_laws.specs.Faithful.{Setting, voters, votes}
 use Rattle.answer_laws.specs.Seats.{All-seated}
 use Rattle.judging.specs.declared.ImportResult.{ImportResult}

@@ -9,6 +9,7 @@ use native.Mathlib.Decide.{ℕ-discrete}
 use native.Mathlib.Omega.{arith}
 use lib.Dec.{T, eqb, leb}
 use borrow.Author.Tests.{eqb-true, eqb-false}
+use Rattle.sizes.specs.Sizes.{BLOCKS}
 use Rattle.loops.specs.Listing.{times, keep}
 use Rattle.loops.proofs.Tests.{by-test, false-T}
 use Rattle.loops.proofs.Listings.{times-here, times-more}
@@ -67,7 +68,7 @@ module _ (parents ids : List ℕ) (base count : ℕ) (g : Columns) (sound : Soun
   settle-in (suc f) b ns lower =
       let p : ℕ → Bool = λ n. ok (view g .bits n) in
       by-test (λ (r : ℕ). T (below (col parents) b r)) (eqb (first-in p ns) 0) _ _
-      (λ t. merge-in parents (sound .parents-fall) (view g .bits) ok 256 b ns lower)
+      (λ t. merge-in parents (sound .parents-fall) (view g .bits) ok BLOCKS b ns lower)
       (λ t.
       below-trans (col parents) (sound .parents-fall) b (first-in p ns) _
       (under-is (col parents) (sound .parents-fall) b (first-in p ns) (lower _ (first-there p ns (eqb-false _ _ (false-T _ t)))) .0)
@@ -76,8 +77,8 @@ module _ (parents ids : List ℕ) (base count : ℕ) (g : Columns) (sound : Soun
   ghost-in : (b : ℕ) → T (below (col parents) base b) → In-base parents base (as-found (find-ghost (col parents) (view g) ok b))
   unfolding find-ghost
   ghost-in b h =
-      by-test (λ (o : Option ℕ). In-base parents base (as-found o)) (ok (tally (col parents) (view g) b)) (some (settle (col parents) (view g) ok 256 b (following (col parents) (view g) b))) none
-      (λ t. below-trans (col parents) (sound .parents-fall) base b _ h (settle-in 256 b _ (lower-following parents ids base count g sound b))) (λ t. tt)
+      by-test (λ (o : Option ℕ). In-base parents base (as-found o)) (ok (tally (col parents) (view g) b)) (some (settle (col parents) (view g) ok BLOCKS b (following (col parents) (view g) b))) none
+      (λ t. below-trans (col parents) (sound .parents-fall) base b _ h (settle-in BLOCKS b _ (lower-following parents ids base count g sound b))) (λ t. tt)
 
 -- the stored prevote-GHOST stays at or below the base
 pub renewed-in : (s : Scene) → Grounded (s .parents) (s .base) (s .graph) → (heard : Heard) (phase : Phase) (a : Answers)

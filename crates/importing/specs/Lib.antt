@@ -1,1 +1,2 @@
 pub mod Import
+pub mod Lent

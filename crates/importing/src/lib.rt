@@ -1,14 +1,22 @@
 // How a vote is taken: `import_prevote` and `import_precommit` of round.rs, on lent columns.
 ghost use mathlib.Core.Path.{_≡_};
 ghost use Rattle.weights.specs.Weights.{plus};
-ghost use Rattle.answers.specs.Update.{lent, scene, told-after, In-base, Grounded};
-ghost use Rattle.importing.specs.Import.{with-heard, import, Ready};
+ghost use Rattle.lent.specs.Moment.{given, before, after};
+ghost use Rattle.nodes.specs.Columns.{graph-at};
+ghost use Rattle.answers.specs.Update.{scene, told-after, In-base, Grounded};
+ghost use Rattle.importing.specs.Import.{blank, with-heard, taken, import, Ready};
+ghost use Rattle.importing.specs.Lent.{frame-at, held-at};
 use answers::Answers;
 use answers::Heard;
 use context::Phase;
 use judging::Equivocation;
 use judging::ImportResult;
 use judging::Verdict;
+use sizes::BLOCKS;
+use sizes::HISTORY;
+use sizes::VOTERS;
+use sizes::VOTES;
+use sizes::WORDS;
 use tracker::Pair;
 use weights::VoteWeight;
 use weights::VoterWeight;
@@ -18,7 +26,7 @@ pub struct Standing {
     pub listed: usize,
     pub tips: usize,
     pub count: usize,
-    pub equivocations: [u64; 2],
+    pub equivocations: [u64; WORDS],
     pub heard: Heard,
     pub answers: Answers,
 }
@@ -26,6 +34,22 @@ pub struct Standing {
 pub struct Step {
     pub answer: ImportResult,
     pub standing: Standing,
+}
+
+// Nothing recorded, and the base the only node.
+pub fn blank() -> Standing
+    ensures { λ r. ⌜ r ≡ blank ⌝ }
+{
+    let heard = answers::no_heard();
+    let stored = answers::no_answers();
+    Standing {
+        listed: 0,
+        tips: 1,
+        count: 0,
+        equivocations: [0u64; WORDS],
+        heard,
+        answers: stored,
+    }
 }
 
 fn added(heard: u64, weight: VoterWeight) -> u64
@@ -53,25 +77,26 @@ fn with_heard(heard: Heard, phase: Phase, weight: VoterWeight) -> Heard
 
 // The answers after a vote was recorded.
 fn updated<'a>(
-    parents: &'a [u8; 256],
-    used: &'a [bool; 256],
-    above: &'a [u8; 256],
-    rows: &'a [[u64; 2]; 256],
-    order: &'a [u8; 256],
+    parents: &'a [u8; BLOCKS],
+    used: &'a [bool; BLOCKS],
+    above: &'a [u8; BLOCKS],
+    rows: &'a [[u64; WORDS]; BLOCKS],
+    order: &'a [u8; BLOCKS],
     listed: usize,
-    heads: &'a [u8; 256],
+    heads: &'a [u8; BLOCKS],
     tips: usize,
-    weights: &'a [u64; 64],
+    weights: &'a [u64; VOTERS],
     base: u8,
     total: u64,
     threshold: u64,
-    equivocations: [u64; 2],
+    equivocations: [u64; WORDS],
     phase: Phase,
     heard: Heard,
     stored: Answers,
 ) -> Answers
-    requires { ⌜ (Grounded (now parents) base (lent (now used) (now above) (now rows) (now order) listed (now heads) tips)) × In-base (now parents) base (stored .prevote) ⌝ }
-    ensures { λ r. ⌜ r ≡ told-after (scene (now (parents .entry)) base (now (weights .entry)) threshold (lent (now (used .entry)) (now (above .entry)) (now (rows .entry)) (now (order .entry)) listed (now (heads .entry)) tips) equivocations) total heard phase stored ⌝ }
+    requires { ⌜ (Grounded (now parents) base (graph-at given used above rows order listed heads tips)) × In-base (now parents) base (stored .prevote) ⌝ }
+    ensures { λ r. ⌜ r ≡ told-after (scene (now (parents .entry)) base (now (weights .entry)) threshold
+        (graph-at before used above rows order listed heads tips) equivocations) total heard phase stored ⌝ }
 {
     let renewed = answers::with_ghost(
         parents,
@@ -111,53 +136,56 @@ fn updated<'a>(
 
 // A vote, taken by the verdict on it.
 pub fn import<'a>(
-    voters: &'a [u32; 64],
-    weights: &'a [u64; 64],
+    voters: &'a [u32; VOTERS],
+    weights: &'a [u64; VOTERS],
     size: usize,
     total: u64,
     threshold: u64,
     number: u64,
-    ids: &'a [u32; 256],
-    heights: &'a [u32; 256],
-    parents: &'a [u8; 256],
+    ids: &'a [u32; BLOCKS],
+    numbers: &'a [u32; BLOCKS],
+    parents: &'a [u8; BLOCKS],
     blocks: usize,
     base: u8,
-    used: &mut [bool; 256],
-    above: &mut [u8; 256],
-    rows: &mut [[u64; 2]; 256],
-    order: &mut [u8; 256],
-    heads: &mut [u8; 256],
-    times: &mut [u8; 128],
-    places: &mut [u8; 128],
-    signatures: &mut [u64; 128],
-    targets: &mut [u32; 128],
-    numbers: &mut [u32; 128],
-    seconds: &mut [u64; 128],
-    entries: &mut [u8; 256],
+    used: &mut [bool; BLOCKS],
+    above: &mut [u8; BLOCKS],
+    rows: &mut [[u64; WORDS]; BLOCKS],
+    order: &mut [u8; BLOCKS],
+    heads: &mut [u8; BLOCKS],
+    counts: &mut [u8; VOTES],
+    first_block: &mut [u8; VOTES],
+    first_signature: &mut [u64; VOTES],
+    second_target: &mut [u32; VOTES],
+    second_number: &mut [u32; VOTES],
+    second_signature: &mut [u64; VOTES],
+    entries: &mut [u16; HISTORY],
     standing: Standing,
     phase: Phase,
     signer: u32,
     pair: Pair,
 ) -> Step
-    requires { ⌜ Ready (record { number = number; voters = record { ids = now voters; weights = now weights; count = size; threshold = threshold; total = total }; table = record { ids = now ids; numbers = now heights; parents = now parents; count = blocks }; base = base }) (record { graph = record { used = now used; above = now above; rows = now rows; order = now order; listed = standing .listed; heads = now heads; tips = standing .tips }; votes = record { times = now times; places = now places; signatures = now signatures; targets = now targets; numbers = now numbers; seconds = now seconds }; entries = now entries; count = standing .count; equivocations = standing .equivocations; heard = standing .heard; answers = standing .answers }) ⌝ }
-    ensures { λ r. ⌜ record { answer = r .answer; held = record { graph = record { used = now (used .exit); above = now (above .exit); rows = now (rows .exit); order = now (order .exit); listed = r .standing .listed; heads = now (heads .exit); tips = r .standing .tips }; votes = record { times = now (times .exit); places = now (places .exit); signatures = now (signatures .exit); targets = now (targets .exit); numbers = now (numbers .exit); seconds = now (seconds .exit) }; entries = now (entries .exit); count = r .standing .count; equivocations = r .standing .equivocations; heard = r .standing .heard; answers = r .standing .answers } } ≡ import (record { number = number; voters = record { ids = now (voters .entry); weights = now (weights .entry); count = size; threshold = threshold; total = total }; table = record { ids = now (ids .entry); numbers = now (heights .entry); parents = now (parents .entry); count = blocks }; base = base }) phase signer pair (record { graph = record { used = now (used .entry); above = now (above .entry); rows = now (rows .entry); order = now (order .entry); listed = standing .listed; heads = now (heads .entry); tips = standing .tips }; votes = record { times = now (times .entry); places = now (places .entry); signatures = now (signatures .entry); targets = now (targets .entry); numbers = now (numbers .entry); seconds = now (seconds .entry) }; entries = now (entries .entry); count = standing .count; equivocations = standing .equivocations; heard = standing .heard; answers = standing .answers }) ⌝ }
+    requires { ⌜ Ready (frame-at given voters weights size total threshold number ids numbers parents blocks base)
+        (held-at given used above rows order heads counts «first_block» «first_signature» «second_target» «second_number» «second_signature» entries standing) ⌝ }
+    ensures { λ r. ⌜ taken (r .answer) (held-at after used above rows order heads counts «first_block» «first_signature» «second_target» «second_number» «second_signature» entries (r .standing))
+        ≡ import (frame-at before voters weights size total threshold number ids numbers parents blocks base) phase signer pair
+        (held-at before used above rows order heads counts «first_block» «first_signature» «second_target» «second_number» «second_signature» entries standing) ⌝ }
 {
     let verdict = judging::judge(
         voters,
         weights,
         size,
         ids,
-        heights,
+        numbers,
         parents,
         blocks,
         base,
         used,
-        times,
-        places,
-        signatures,
-        targets,
-        numbers,
-        seconds,
+        counts,
+        first_block,
+        first_signature,
+        second_target,
+        second_number,
+        second_signature,
         phase,
         signer,
         pair,
@@ -169,12 +197,12 @@ pub fn import<'a>(
     match verdict {
         Verdict::Nothing(answer) => Step { answer, standing },
         Verdict::First(info, block) => {
-            let at = judging::index(info.position, phase);
+            let at = context::index(info.position, phase);
             let weight = info.weight;
-            times[at] = 1;
-            places[at] = block;
-            signatures[at] = pair.signature;
-            entries[count] = (at * 2) as u8;
+            counts[at] = 1;
+            first_block[at] = block;
+            first_signature[at] = pair.signature;
+            entries[count] = layouts::entry(at, 0);
             let counts = vote_insert::insert(
                 parents,
                 ids,
@@ -223,12 +251,12 @@ pub fn import<'a>(
             }
         }
         Verdict::Second(info, first) => {
-            let at = judging::index(info.position, phase);
-            times[at] = 2;
-            targets[at] = pair.target;
-            numbers[at] = pair.number;
-            seconds[at] = pair.signature;
-            entries[count] = (at * 2 + 1) as u8;
+            let at = context::index(info.position, phase);
+            counts[at] = 2;
+            second_target[at] = pair.target;
+            second_number[at] = pair.number;
+            second_signature[at] = pair.signature;
+            entries[count] = layouts::entry(at, 1);
             let listed = standing.listed;
             let tips = standing.tips;
             let more = bitfield::set_bit(equivocations, at);

@@ -5,6 +5,7 @@ use Prim.Native.Nat.{ℕ, _+_, _-_, _≤_, _<_}
 use native.Mathlib.Omega.{arith}
 use lib.ListN.{length, take, drop, length-drop}
 use lib.Seq.{drop-drop}
+use Rattle.sizes.specs.Sizes.{PAIRS}
 use Rattle.weights.specs.Weights.{most}
 use Rattle.voter_set.specs.declared.VoterSet.{VoterSet}
 use Rattle.voter_set.specs.declared.NewVoterSet.{NewVoterSet}
@@ -20,9 +21,8 @@ use Rattle.block_laws.proofs.Adds.{opened-shaped, found-stands}
 use Rattle.graph_rows.specs.declared.Row.{Row}
 use Rattle.graph_rows.specs.Rows.{words-of, rows-of}
 use Rattle.vote_graph.specs.Shape.{columns}
-use Rattle.importing.specs.Import.{Frame, Held}
+use Rattle.importing.specs.Import.{Frame}
 use Rattle.held_laws.specs.Kept.{Kept}
-use Rattle.held_laws.specs.Reached.{opened-held}
 use Rattle.held_laws.proofs.Opens.{opened-kept}
 use Rattle.marks.specs.declared.Mark.the-variants.{Rt, Op}
 use Rattle.marks.specs.declared.Record.the-variants as is
@@ -33,8 +33,8 @@ use Rattle.runs.specs.Run.{Run, ended, ran, counted}
 use Rattle.runs.proofs.Turns.{part-drop}
 use Rattle.round.specs.declared.Index.the-variants as index
 use Rattle.round.specs.declared.Round.{Round}
-use Rattle.round.specs.Shape.{frame, held}
-use Rattle.round.specs.Calls.{opened}
+use Rattle.round.specs.Shape.{frame, held-lent, held}
+use Rattle.round.specs.Calls.{made, opened}
 use Rattle.round_laws.proofs.Keeps.{opened-again}
 use Rattle.pairing.specs.declared.Pairs.{Pairs}
 use Rattle.pairing.specs.Pairing.{paired}
@@ -50,70 +50,30 @@ use Rattle.journal.specs.Journal.{round-of, laid, told-by, told, run-of,
 use Rattle.journal.proofs.Turning.{open-refused, open-goes, root-refused, root-goes}
 use Rattle.journal.proofs.Through.{voters-cut, voters-refused, voters-left, voters-rt, blocks-cut, blocks-refused, blocks-left, blocks-shaped, blocks-op, votes-through}
 
--- what is held, with its rows as words
-abbrev with-words : Round → List (List ℕ) → Held
-with-words r w =
-    record {
-      graph = record {
-        used = r .graph .used;
-        above = r .graph .above;
-        rows = w;
-        order = r .graph .order;
-        listed = r .graph .listed;
-        heads = r .graph .heads;
-        tips = r .graph .tips;
-      };
-      votes = r .votes;
-      entries = r .history .entries;
-      count = r .history .count;
-      equivocations = r .context .equivocations;
-      heard = r .heard;
-      answers = r .answers;
-    }
-
 -- a round after some votes, with its rows as code makes them
 abbrev round-by : Voting → List Row → Round
-round-by v rows =
-    record {
-      number = v .frame .number;
-      context = record { voters = v .frame .voters; equivocations = v .held .equivocations };
-      table = v .frame .table;
-      graph = record {
-        base = v .frame .base;
-        used = v .held .graph .used;
-        above = v .held .graph .above;
-        rows = rows;
-        order = v .held .graph .order;
-        listed = v .held .graph .listed;
-        heads = v .held .graph .heads;
-        tips = v .held .graph .tips;
-      };
-      votes = v .held .votes;
-      history = record { entries = v .held .entries; count = v .held .count; prevoted = index.Nothing; precommitted = index.Nothing };
-      heard = v .held .heard;
-      answers = v .held .answers;
-    }
+round-by v rows = made (v .frame) (v .held) rows index.Nothing index.Nothing
 
 same : (v : Voting) → round-by v (rows-of (v .held .graph .rows)) ≡ round-of v
 unfolding round-of
 same v = refl
 
-made : (v : Voting) (rows : List Row) → rows ≡ rows-of (v .held .graph .rows) → (p : Pairs) → p ≡ no-pairs
+is-laid : (v : Voting) (rows : List Row) → rows ≡ rows-of (v .held .graph .rows) → (p : Pairs) → p ≡ no-pairs
     → record { turn = Votes; pairs = p; round = round-by v rows } ≡ laid (voting v)
-made v rows a p b =
+is-laid v rows a p b =
     (λ i. record { turn = Votes; pairs = b i; round = round-by v (a i) })
     ∙ ap (λ (q : Round). record { turn = Votes; pairs = no-pairs; round = q }) (same v)
 
 module _ (r : Round) (kept : Kept (frame r) (held r)) (w : List (List ℕ)) (words : w ≡ words-of (r .graph .rows)) where
-  pub votes-ready : Kept (frame r) (with-words r w)
-  votes-ready = subst (λ x. Kept (frame r) (with-words r x)) (sym words) kept
+  pub votes-ready : Kept (frame r) (held-lent r w)
+  votes-ready = subst (λ x. Kept (frame r) (held-lent r x)) (sym words) kept
 
-  pub votes-done : (v : Voting) (n : ℕ) (bs rest : List ℕ) (x : End) → ended v n rest x ≡ ran voted (record { frame = frame r; held = with-words r w }) bs
+  pub votes-done : (v : Voting) (n : ℕ) (bs rest : List ℕ) (x : End) → ended v n rest x ≡ ran voted (record { frame = frame r; held = held-lent r w }) bs
       → (rows : List Row) → rows ≡ rows-of (v .held .graph .rows) → (p : Pairs) → p ≡ no-pairs
       → ended (record { turn = Votes; pairs = p; round = round-by v rows }) n rest x ≡ run-from (voting (record { frame = frame r; held = held r })) bs
   votes-done v n bs rest x e rows is-rows p is-none =
-      ap (λ (j : Journal). ended j n rest x) (made v rows is-rows p is-none)
-      ∙ sym (votes-through (record { frame = frame r; held = held r }) v kept n bs rest x (e ∙ ap (λ y. ran voted (record { frame = frame r; held = with-words r y }) bs) words))
+      ap (λ (j : Journal). ended j n rest x) (is-laid v rows is-rows p is-none)
+      ∙ sym (votes-through (record { frame = frame r; held = held r }) v kept n bs rest x (e ∙ ap (λ y. ran voted (record { frame = frame r; held = held-lent r y }) bs) words))
 
 -- records and bytes before a run
 later-is : (p : Progress) (n a : ℕ) (bs : List ℕ)
@@ -236,7 +196,7 @@ module _ (v : VoterSet) (t : BlockTable) (stands : Stands Kept (growing v t)) (u
       (part-run (growing v u) p a bs g) h
 
 -- the first turn
-module _ (p : Pairs) (few : p .count ≤ 256) (q : Pairs) (n a : ℕ) (bs : List ℕ) (x : End) (e : ended q n (drop a bs) x ≡ ran paired p bs) where
+module _ (p : Pairs) (few : p .count ≤ PAIRS) (q : Pairs) (n a : ℕ) (bs : List ℕ) (x : End) (e : ended q n (drop a bs) x ≡ ran paired p bs) where
   pub paired-cut : x ≡ Cut → (j : Journal) → j ≡ laid (pairing q) → ended j n (drop a bs) Cut ≡ run-from (pairing p) bs
   paired-cut f j g =
       ap (λ (y : Journal). ended y n (drop a bs) Cut) g ∙ sym (voters-cut p q few n bs (drop a bs) (matched q n (drop a bs) x Cut _ e f))

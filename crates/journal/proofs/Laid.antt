@@ -11,7 +11,7 @@ use Rattle.voter_laws.proofs.Goods.{good-means, means-good}
 use Rattle.block_shape.specs.Shape.{tabled}
 use Rattle.block_shape.proofs.Shapes.{tabled-shaped, shaped-tabled}
 use Rattle.vote_graph.proofs.Shapes.{columns-of}
-use Rattle.importing.specs.Import.{Frame, Held}
+use Rattle.importing.specs.Import.{Frame, with-graph}
 use Rattle.held_laws.specs.Kept.{Kept}
 use Rattle.round.specs.declared.Round.{Round}
 use Rattle.round.specs.Shape.{frame, held, shaped}
@@ -33,16 +33,7 @@ frame-of v = refl
 
 pub held-of : (v : Voting) → held (round-of v) ≡ v .held
 unfolding round-of
-held-of v =
-    λ i. record {
-      graph = columns-of (v .frame .base) (v .held .graph) i;
-      votes = v .held .votes;
-      entries = v .held .entries;
-      count = v .held .count;
-      equivocations = v .held .equivocations;
-      heard = v .held .heard;
-      answers = v .held .answers;
-    }
+held-of v = ap (with-graph (v .held)) (columns-of (v .frame .base) (v .held .graph))
 
 pub told-laid : (j : turns.Journal) → told (laid j) ≡ j
 unfolding told opened

@@ -5,6 +5,7 @@ use mathlib.Core.Path.{_≡_, refl, sym, ap, subst, _∙_}
 use Prim.Native.Nat.{ℕ, _+_, _≤_}
 use native.Mathlib.Omega.{arith}
 use lib.Dec.{leb}
+use Rattle.sizes.specs.Sizes.{PAIRS}
 use Rattle.voter_set.specs.declared.VoterSet.{VoterSet}
 use Rattle.blocks.specs.declared.BlockTable.{BlockTable}
 use Rattle.blocks.specs.declared.Answer.{Answer}
@@ -82,7 +83,7 @@ gone s e = absurd (let z : _≡_ {A = ℕ} 0 1 = cc in omega arith)
 paired-left : (p : Pairs) (m : Mark) (fs : List ℕ) → paired p m fs ≡ leaves → m ≡ Rt
 unfolding paired
 paired-left p Rt fs e = refl
-paired-left p Vt fs e = go (leb 256 (p .count)) e
+paired-left p Vt fs e = go (leb PAIRS (p .count)) e
   where
     go : (b : Bool) → cond b (stops 1) (goes (with-pair p (word fs 0) (long fs 4))) ≡ leaves → Vt ≡ Rt
     go true e = apart 1 e
@@ -127,13 +128,13 @@ voted-goes r Rt fs e = apart 18 e
 voted-goes r Op fs e = apart 18 e
 
 -- the first turn
-module _ (p q : Pairs) (few : p .count ≤ 256) (n : ℕ) (bs rest : List ℕ) where
+module _ (p q : Pairs) (few : p .count ≤ PAIRS) (n : ℕ) (bs rest : List ℕ) where
   does-pair : (p : Pairs) (m : Mark) (fs : List ℕ) → took (pairing p) m fs ≡ on-next (paired p m fs) (λ q. goes (pairing q)) stops (rooted p fs)
   unfolding took
   does-pair p m fs = refl
 
   abbrev Few : Pairs → Type 0
-  Few q = q .count ≤ 256
+  Few q = q .count ≤ PAIRS
 
   pub voters-cut : ended q n rest Cut ≡ ran paired p bs → run-from (pairing p) bs ≡ ended (laid (pairing q)) n rest Cut
   voters-cut = through-cut paired pairing (λ p m fs. rooted p fs) does-pair Few paired-few p q few n bs rest

@@ -5,16 +5,17 @@ use mathlib.Core.Path.{_≡_}
 use Prim.Native.Nat.{ℕ, _+_, _≤_}
 use lib.Dec.{leb}
 use lib.ListN.{length, drop}
+use Rattle.sizes.specs.Sizes.{PAIRS}
 use Rattle.voter_set.specs.Good.{good}
 use Rattle.block_shape.specs.Shape.{tabled}
-use Rattle.vote_graph.specs.Shape.{graph-of}
+use Rattle.graph_rows.specs.Rows.{rows-of}
 use Rattle.runs.specs.Run.{Run, ran}
 use Rattle.round.specs.declared.Index.{Index}
 use Rattle.round.specs.declared.Index.the-variants as index
 use Rattle.round.specs.declared.History.{History}
 use Rattle.round.specs.declared.Round.{Round}
 use Rattle.round.specs.Shape.{frame, held, shaped}
-use Rattle.round.specs.Calls.{opened, nobody, no-blocks}
+use Rattle.round.specs.Calls.{made, opened, nobody, no-blocks}
 use Rattle.voting.specs.Voting.{Voting}
 use Rattle.turns.specs.Turns as turns
 use Rattle.turns.specs.Turns.{pairing, growing, voting, took, no-pairs}
@@ -25,17 +26,7 @@ use Rattle.journal.specs.declared.Progress.{Progress}
 
 -- no call of a journal sets an index
 unfoldable pub round-of : Voting → Round
-round-of v =
-    record {
-      number = v .frame .number;
-      context = record { voters = v .frame .voters; equivocations = v .held .equivocations };
-      table = v .frame .table;
-      graph = graph-of (v .frame .base) (v .held .graph);
-      votes = v .held .votes;
-      history = record { entries = v .held .entries; count = v .held .count; prevoted = index.Nothing; precommitted = index.Nothing };
-      heard = v .held .heard;
-      answers = v .held .answers;
-    }
+round-of v = made (v .frame) (v .held) (rows-of (v .held .graph .rows)) index.Nothing index.Nothing
 
 -- the state of the definitions by value
 abbrev pub laid : turns.Journal → Journal
@@ -58,7 +49,7 @@ unset (index.At n) = false
 
 -- the test of a state that is handed in
 abbrev pub stands-by : Turn → Journal → Bool
-stands-by Voters j = leb (j .pairs .count) 256
+stands-by Voters j = leb (j .pairs .count) PAIRS
 stands-by Blocks j = good (j .round .context .voters) && tabled (j .round .table)
 stands-by Votes j = shaped (j .round) && (unset (j .round .history .prevoted) && unset (j .round .history .precommitted))
 

@@ -3,6 +3,7 @@
 ghost use mathlib.Core.Path.{_≡_};
 ghost use Prim.Native.Nat.{_+_, _≤_};
 ghost use lib.ListN.{length, take};
+ghost use Rattle.sizes.specs.Sizes.{PAIRS};
 ghost use Rattle.weights.specs.Weights.{most};
 ghost use Rattle.voter_set.specs.Voters.{new};
 ghost use Rattle.held_laws.specs.Kept.{Kept};
@@ -23,6 +24,7 @@ use pairing::Pairs;
 use round::History;
 use round::Index;
 use round::Round;
+use sizes::PAIRS;
 use tracker::Votes;
 use vote_graph::VoteGraph;
 use voter_set::Answer;
@@ -56,8 +58,8 @@ pub fn no_pairs() -> Pairs
     ensures { λ r. ⌜ r ≡ no-pairs ⌝ }
 {
     Pairs {
-        ids: [0u32; 256],
-        weights: [0u64; 256],
+        ids: [0u32; PAIRS],
+        weights: [0u64; PAIRS],
         count: 0,
     }
 }
@@ -109,7 +111,7 @@ fn from_votes(round: Round, bytes: &[u8]) -> Progress
     let voters = context.voters;
     let table = round.table;
     let mut ids = table.ids;
-    let mut heights = table.numbers;
+    let mut numbers = table.numbers;
     let mut parents = table.parents;
     let graph = round.graph;
     let rows_before = graph.rows;
@@ -119,12 +121,12 @@ fn from_votes(round: Round, bytes: &[u8]) -> Progress
     let mut order = graph.order;
     let mut heads = graph.heads;
     let votes = round.votes;
-    let mut times = votes.times;
-    let mut places = votes.places;
-    let mut signatures = votes.signatures;
-    let mut targets = votes.targets;
-    let mut numbers = votes.numbers;
-    let mut seconds = votes.seconds;
+    let mut counts = votes.counts;
+    let mut first_block = votes.first_block;
+    let mut first_signature = votes.first_signature;
+    let mut second_target = votes.second_target;
+    let mut second_number = votes.second_number;
+    let mut second_signature = votes.second_signature;
     let history = round.history;
     let mut entries = history.entries;
     let equivocations = context.equivocations;
@@ -146,7 +148,7 @@ fn from_votes(round: Round, bytes: &[u8]) -> Progress
         voters.threshold,
         round.number,
         &mut ids,
-        &mut heights,
+        &mut numbers,
         &mut parents,
         table.count,
         graph.base,
@@ -155,12 +157,12 @@ fn from_votes(round: Round, bytes: &[u8]) -> Progress
         &mut rows,
         &mut order,
         &mut heads,
-        &mut times,
-        &mut places,
-        &mut signatures,
-        &mut targets,
-        &mut numbers,
-        &mut seconds,
+        &mut counts,
+        &mut first_block,
+        &mut first_signature,
+        &mut second_target,
+        &mut second_number,
+        &mut second_signature,
         &mut entries,
         standing,
         bytes,
@@ -172,7 +174,7 @@ fn from_votes(round: Round, bytes: &[u8]) -> Progress
     let end = ran.end;
     let table_after = BlockTable {
         ids,
-        numbers: heights,
+        numbers,
         parents,
         count: ran.blocks,
     };
@@ -188,12 +190,12 @@ fn from_votes(round: Round, bytes: &[u8]) -> Progress
         tips: after.tips,
     };
     let votes_after = Votes {
-        times,
-        places,
-        signatures,
-        targets,
-        numbers,
-        seconds,
+        counts,
+        first_block,
+        first_signature,
+        second_target,
+        second_number,
+        second_signature,
     };
     let round_after = Round {
         number: round.number,
@@ -281,8 +283,8 @@ fn from_blocks(voters: VoterSet, table: BlockTable, bytes: &[u8]) -> Progress
 }
 
 // The voter set of the pairs so far.
-fn make(ids: [u32; 256], weights: [u64; 256], count: usize) -> NewVoterSet
-    requires { ⌜ count ≤ 256 ⌝ }
+fn make(ids: [u32; PAIRS], weights: [u64; PAIRS], count: usize) -> NewVoterSet
+    requires { ⌜ count ≤ PAIRS ⌝ }
     ensures { λ r. ⌜ r ≡ new (take count ids) (take count weights) ⌝ }
 {
     VoterSet::new(&ids[..count], &weights[..count])
@@ -290,7 +292,7 @@ fn make(ids: [u32; 256], weights: [u64; 256], count: usize) -> NewVoterSet
 
 // The Rt, and what follows it.
 fn root(pairs: Pairs, part: &[u8]) -> Progress
-    requires { ⌜ (pairs .count ≤ 256) × (read (now part) ≡ Whole Rt) ⌝ }
+    requires { ⌜ (pairs .count ≤ PAIRS) × (read (now part) ≡ Whole Rt) ⌝ }
     ensures { λ r. ⌜ (run-of r (now (part .entry)) ≡ run-from (pairing pairs) (now (part .entry))) × Within r (now (part .entry)) ⌝ }
 {
     let fields = marks::fields(part, Mark::Rt);
@@ -315,7 +317,7 @@ fn root(pairs: Pairs, part: &[u8]) -> Progress
 
 // The first turn, and those after it.
 pub fn from_voters(pairs: Pairs, bytes: &[u8]) -> Progress
-    requires { ⌜ pairs .count ≤ 256 ⌝ }
+    requires { ⌜ pairs .count ≤ PAIRS ⌝ }
     ensures { λ r. ⌜ (run-of r (now (bytes .entry)) ≡ run-from (pairing pairs) (now (bytes .entry))) × Within r (now (bytes .entry)) ⌝ }
 {
     let mut ids = pairs.ids;
@@ -363,7 +365,7 @@ impl Journal {
         let pairs = self.pairs;
         let round = self.round;
         match turn {
-            Turn::Voters => pairs.count <= 256,
+            Turn::Voters => pairs.count <= PAIRS,
             Turn::Blocks => {
                 let context = round.context;
                 let voters = context.voters;

@@ -31,10 +31,10 @@ Inside parents base used = (x : ℕ) → T (flag used x) → T (below (col paren
 
 -- a first vote: its target is in the table (11), by its right number (12), at or below the base (13)
 unfoldable pub judge-first : List ℕ → List ℕ → List ℕ → ℕ → ℕ → VoterInfo → Pair → Verdict
-judge-first ids heights parents blocks base voter pair =
+judge-first ids numbers parents blocks base voter pair =
     on-place (place-of ids blocks (pair .target))
     (λ b.
-    cond (eqb (col heights b) (pair .number)) (cond (below (col parents) base b) (First voter b) (refused 13)) (refused 12))
+    cond (eqb (col numbers b) (pair .number)) (cond (below (col parents) base b) (First voter b) (refused 13)) (refused 12))
     (refused 11)
 
 -- rules 2 to 5; a second pair's target is not looked up
@@ -49,9 +49,9 @@ on-voter (Voter v) f = f v
 on-voter Outside f = Nothing answer.Outside
 
 unfoldable pub judge : List ℕ → List ℕ → ℕ → List ℕ → List ℕ → List ℕ → ℕ → ℕ → Votes → Phase → ℕ → Pair → Verdict
-judge voters weights size ids heights parents blocks base votes phase signer pair =
+judge voters weights size ids numbers parents blocks base votes phase signer pair =
     on-voter (look-up voters weights size signer)
     (λ v.
-    by-rule (add-vote (recorded votes ids heights (bit phase (v .position))) pair)
-    (judge-first ids heights parents blocks base v pair)
+    by-rule (add-vote (recorded votes ids numbers (bit phase (v .position))) pair)
+    (judge-first ids numbers parents blocks base v pair)
     v)

@@ -4,17 +4,22 @@
 use mathlib.Core.Bool.{true, false}
 use mathlib.Core.List.{List, [], _∷_, _++_}
 use mathlib.Core.Path.{_≡_, refl}
-use Prim.Native.Nat.{ℕ}
-use lib.ListN.{replicate}
+use Prim.Native.Nat.{ℕ, suc}
+use lib.ListN.{replicate, set}
+use Rattle.sizes.specs.Sizes.{VOTES}
+use Rattle.layouts.specs.Layout.{RUN, index, index-place, index-phase, entry, entry-index, entry-pair}
+use Rattle.layouts.specs.Layout as layout
 use Rattle.loops.specs.Listing.{keep}
 use Rattle.grandpa.specs.Tree.{within, below}
+use Rattle.context.specs.declared.Phase.{Phase}
 use Rattle.context.specs.declared.Phase.the-variants.{Prevote, Precommit}
+use Rattle.context.specs.Votes.{bit, phase-at}
 use Rattle.tracker.specs.declared.Votes.{Votes}
 use Rattle.tracker.specs.Recorded.{recorded}
 use Rattle.records.specs.Bytes.{vote-bytes}
 use Rattle.listing.specs.declared.Wanted.the-variants.{Of, Finalizing}
 use Rattle.listing.specs.declared.Written.the-variants.{Bytes, Refused}
-use Rattle.listing.specs.Entries.{counting, wants}
+use Rattle.listing.specs.Entries.{by-voter, wants}
 use Rattle.listing.specs.Written.{pair-of, record-of, in-a-row, Lent, written}
 
 voters : List ℕ
@@ -23,32 +28,60 @@ voters = 1 ∷ 2 ∷ 3 ∷ 4 ∷ []
 ids : List ℕ
 ids = 10 ∷ 11 ∷ 12 ∷ 13 ∷ []
 
-heights : List ℕ
-heights = 0 ∷ 1 ∷ 2 ∷ 2 ∷ []
+numbers : List ℕ
+numbers = 0 ∷ 1 ∷ 2 ∷ 2 ∷ []
 
 parents : List ℕ
 parents = 0 ∷ 0 ∷ 1 ∷ 1 ∷ []
 
-places : List ℕ
-places = 2 ∷ 2 ∷ 2 ∷ 2 ∷ 3 ∷ 1 ∷ 2 ∷ []
+-- a column with numbers of the voters of a phase, from place p on
+voted : Phase → ℕ → List ℕ → List ℕ → List ℕ
+voted phase p [] column = column
+voted phase p (x ∷ xs) column = voted phase (suc p) xs (set column (bit phase p) x)
 
--- the precommits are those of index 1, 3 and 5, the second pair that of index 5
+none : List ℕ
+none = replicate VOTES 0
+
+first-block : List ℕ
+first-block = voted Prevote 0 (2 ∷ 2 ∷ 3 ∷ 2 ∷ []) (voted Precommit 0 (2 ∷ 2 ∷ 1 ∷ []) none)
+
+spoken : List ℕ
+spoken = voted Prevote 0 (1 ∷ 1 ∷ 1 ∷ 1 ∷ []) (voted Precommit 0 (1 ∷ 1 ∷ 1 ∷ []) none)
+
 j : Votes
-j = record { times = 1 ∷ 1 ∷ 1 ∷ 1 ∷ 1 ∷ 1 ∷ 1 ∷ []; places = places; signatures = []; targets = []; numbers = []; seconds = [] }
+j = record { counts = spoken; «first_block» = first-block; «first_signature» = none; «second_target» = none; «second_number» = none; «second_signature» = none }
 
+-- with the second precommit of place 2
 twice : Votes
-twice = record { times = 1 ∷ 1 ∷ 1 ∷ 1 ∷ 1 ∷ 2 ∷ 1 ∷ []; places = places; signatures = []; targets = replicate 5 0 ++ (13 ∷ []); numbers = replicate 5 0 ++ (2 ∷ []); seconds = [] }
+twice =
+    record {
+      counts = set spoken (bit Precommit 2) 2;
+      «first_block» = first-block;
+      «first_signature» = none;
+      «second_target» = set none (bit Precommit 2) 13;
+      «second_number» = set none (bit Precommit 2) 2;
+      «second_signature» = none;
+    }
 
-lists : (keep (wants (j .times) places parents (Finalizing 1)) (counting 16) ≡ 2 ∷ 6 ∷ 10 ∷ [])
-    × (keep (wants (twice .times) places parents (Finalizing 2)) (counting 16) ≡ 2 ∷ 6 ∷ 10 ∷ 11 ∷ [])
-    × (keep (wants (j .times) places parents (Finalizing 2)) (counting 16) ≡ 2 ∷ 6 ∷ [])
-    × (keep (wants (j .times) places parents (Of Prevote)) (counting 16) ≡ 0 ∷ 4 ∷ 8 ∷ 12 ∷ [])
-    × (keep (wants (twice .times) places parents (Of Precommit)) (counting 16) ≡ 2 ∷ 6 ∷ 10 ∷ 11 ∷ [])
-unfolding keep wants counting within below parents places j twice
+-- the first and the second precommit of a place
+first : ℕ → ℕ
+first p = entry (bit Precommit p) 0
+
+second : ℕ → ℕ
+second p = entry (bit Precommit p) 1
+
+lists : (keep (wants (j .counts) first-block parents (Finalizing 1)) (by-voter Precommit 4) ≡ first 0 ∷ first 1 ∷ first 2 ∷ [])
+    × (keep (wants (twice .counts) first-block parents (Finalizing 2)) (by-voter Precommit 4) ≡ first 0 ∷ first 1 ∷ first 2 ∷ second 2 ∷ [])
+    × (keep (wants (j .counts) first-block parents (Finalizing 2)) (by-voter Precommit 4) ≡ first 0 ∷ first 1 ∷ [])
+    × (keep (wants (j .counts) first-block parents (Of Prevote)) (by-voter Prevote 4)
+    ≡ entry (bit Prevote 0) 0 ∷ entry (bit Prevote 1) 0 ∷ entry (bit Prevote 2) 0 ∷ entry (bit Prevote 3) 0 ∷ [])
+    × (keep (wants (twice .counts) first-block parents (Of Precommit)) (by-voter Precommit 4) ≡ first 0 ∷ first 1 ∷ first 2 ∷ second 2 ∷ [])
+unfolding keep wants by-voter within below voted none parents first-block spoken j twice first second
+    bit index entry entry-index entry-pair layout.bit RUN
 lists = (refl, refl, refl, refl, refl)
 
 -- three Pc records, and what stood after them; one byte less is 14
-case-j : (written (record-of j voters ids heights) (2 ∷ 6 ∷ 10 ∷ []) (replicate 68 255)
+case-j : (written (record-of j voters ids numbers) (first 0 ∷ first 1 ∷ first 2 ∷ []) (replicate 68 255)
     ≡ record {
       answer = Bytes 66;
       bytes =
@@ -57,17 +90,19 @@ case-j : (written (record-of j voters ids heights) (2 ∷ 6 ∷ 10 ∷ []) (repl
           80 ∷ 99 ∷ 3 ∷ 0 ∷ 0 ∷ 0 ∷ 11 ∷ 0 ∷ 0 ∷ 0 ∷ 1 ∷ 0 ∷ 0 ∷ 0 ∷ 0 ∷ 0 ∷ 0 ∷ 0 ∷ 0 ∷ 0 ∷ 0 ∷ 0 ∷
           255 ∷ 255 ∷ [];
     })
-    × (written (record-of j voters ids heights) (2 ∷ 6 ∷ 10 ∷ []) (replicate 65 255) ≡ record { answer = Refused 14; bytes = replicate 65 255 })
-unfolding written in-a-row record-of pair-of recorded vote-bytes voters ids heights places j
+    × (written (record-of j voters ids numbers) (first 0 ∷ first 1 ∷ first 2 ∷ []) (replicate 65 255) ≡ record { answer = Refused 14; bytes = replicate 65 255 })
+unfolding written in-a-row record-of pair-of recorded vote-bytes voters ids numbers voted none first-block spoken j first
+    bit phase-at index index-place index-phase entry entry-index entry-pair layout.bit layout.place-of layout.phase-of RUN
 case-j = (refl, refl)
 
 -- the equivocator's two, in arrival order
-case-j-twice : written (record-of twice voters ids heights) (10 ∷ 11 ∷ []) (replicate 44 0)
+case-j-twice : written (record-of twice voters ids numbers) (first 2 ∷ second 2 ∷ []) (replicate 44 0)
     ≡ record {
       answer = Bytes 44;
       bytes =
           80 ∷ 99 ∷ 3 ∷ 0 ∷ 0 ∷ 0 ∷ 11 ∷ 0 ∷ 0 ∷ 0 ∷ 1 ∷ 0 ∷ 0 ∷ 0 ∷ 0 ∷ 0 ∷ 0 ∷ 0 ∷ 0 ∷ 0 ∷ 0 ∷ 0 ∷
           80 ∷ 99 ∷ 3 ∷ 0 ∷ 0 ∷ 0 ∷ 13 ∷ 0 ∷ 0 ∷ 0 ∷ 2 ∷ 0 ∷ 0 ∷ 0 ∷ 0 ∷ 0 ∷ 0 ∷ 0 ∷ 0 ∷ 0 ∷ 0 ∷ 0 ∷ [];
     }
-unfolding written in-a-row record-of pair-of recorded vote-bytes voters ids heights places twice
+unfolding written in-a-row record-of pair-of recorded vote-bytes voters ids numbers voted none first-block spoken twice first second
+    bit phase-at index index-place index-phase entry entry-index entry-pair layout.bit layout.place-of layout.phase-of RUN
 case-j-twice = refl

@@ -1,3 +1,3 @@
-pub mod Countings
+pub mod Voters
 pub mod Rows
 pub mod Examples

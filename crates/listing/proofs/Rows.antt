@@ -1,7 +1,7 @@
 -- Records one after the other, and the loop that writes each into the part of a buffer that remains.
 use mathlib.Core.List.{List, [], _∷_, _++_, append-assoc, append-nil}
 use mathlib.Core.Path.{_≡_, refl, sym, ap, _∙_}
-use Prim.Native.Nat.{ℕ, zero, suc, _+_, _-_, _*_, _/_, _≤_, _<_}
+use Prim.Native.Nat.{ℕ, zero, suc, _+_, _-_, _*_, _≤_, _<_}
 use native.Mathlib.Numerals.{add-one}
 use native.Mathlib.Omega.{arith}
 use lib.Dec.{ltb}
@@ -10,14 +10,16 @@ use lib.Seq.{take-all, take-at, drop-drop, drop-append-add}
 use borrow.Author.Tests.{lt-ltb, le-ltb}
 use Rattle.loops.specs.Listing.{front}
 use Rattle.loops.proofs.Listings.{length-front}
+use Rattle.layouts.specs.Layout.{index-place, entry-index}
 use Rattle.context.specs.declared.Phase.{Phase}
+use Rattle.context.specs.Votes.{phase-at}
 use Rattle.nodes.specs.Nodes.{col}
 use Rattle.tracker.specs.declared.Votes.{Votes}
 use Rattle.tracker.specs.declared.Pair.{Pair}
 use Rattle.records.specs.Bytes.{vote-bytes}
 use Rattle.records.proofs.Bytes.{length-vote}
 use Rattle.listing.specs.declared.Written.the-variants.{Bytes, Refused}
-use Rattle.listing.specs.Written.{phase-of, pair-of, record-of, in-a-row, Lent, written}
+use Rattle.listing.specs.Written.{phase-of, voter-of, pair-of, record-of, in-a-row, Lent, written}
 
 module _ (f : ℕ → List ℕ) where
   pub row-append : (a b : List ℕ) → in-a-row f (a ++ b) ≡ in-a-row f a ++ in-a-row f b
@@ -114,12 +116,12 @@ unfolding written
 filled-not f xs old n short = rw (length-front n xs, lt-ltb _ _ short)
 
 -- the record of an entry
-module _ (v : Votes) (voters ids heights : List ℕ) where
-  pub record-size : (e : ℕ) → length (record-of v voters ids heights e) ≡ 22
+module _ (v : Votes) (voters ids numbers : List ℕ) where
+  pub record-size : (e : ℕ) → length (record-of v voters ids numbers e) ≡ 22
   unfolding record-of
-  record-size e = length-vote (phase-of e) (col voters (e / 4)) (pair-of v ids heights e)
+  record-size e = length-vote (phase-of e) (col voters (voter-of e)) (pair-of v ids numbers e)
 
-  pub record-is : (e entry : ℕ) (phase : Phase) (pair : Pair) → entry ≡ e → phase ≡ phase-of entry → pair ≡ pair-of v ids heights entry
-      → vote-bytes phase (col voters (entry / 4)) pair ≡ record-of v voters ids heights e
+  pub record-is : (e at place : ℕ) (phase : Phase) (pair : Pair) → at ≡ entry-index e → place ≡ index-place at → phase ≡ phase-at at
+      → pair ≡ pair-of v ids numbers e → vote-bytes phase (col voters place) pair ≡ record-of v voters ids numbers e
   unfolding record-of
-  record-is e entry phase pair a b d = rw (b, d, a)
+  record-is e at place phase pair a b d q = rw (d, q, b, a)

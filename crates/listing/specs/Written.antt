@@ -3,11 +3,12 @@
 -- refusal leaves the buffer untouched.
 use mathlib.Core.Bool.{Bool, cond}
 use mathlib.Core.List.{List, [], _∷_, _++_}
-use Prim.Native.Nat.{ℕ, _*_, _/_, _%_}
+use Prim.Native.Nat.{ℕ, _*_}
 use lib.Dec.{eqb, ltb}
 use lib.ListN.{length, drop}
+use Rattle.layouts.specs.Layout.{index-place, entry-index, entry-pair}
 use Rattle.context.specs.declared.Phase.{Phase}
-use Rattle.context.specs.declared.Phase.the-variants.{Prevote, Precommit}
+use Rattle.context.specs.Votes.{phase-at}
 use Rattle.nodes.specs.Nodes.{col}
 use Rattle.tracker.specs.declared.Votes.{Votes}
 use Rattle.tracker.specs.declared.Pair.{Pair}
@@ -18,9 +19,12 @@ use Rattle.records.specs.Bytes.{vote-bytes}
 use Rattle.listing.specs.declared.Written.{Written}
 use Rattle.listing.specs.declared.Written.the-variants.{Bytes, Refused}
 
--- entry e is pair e % 2 of index e / 2; the voter at place p has index 2p for its prevotes and 2p + 1 for its precommits
+-- the phase of an entry, and the place of its voter
 abbrev pub phase-of : ℕ → Phase
-phase-of e = cond (eqb (e / 2 % 2) 0) Prevote Precommit
+phase-of e = phase-at (entry-index e)
+
+abbrev pub voter-of : ℕ → ℕ
+voter-of e = index-place (entry-index e)
 
 -- the first pair or the later one; zeros where none is recorded, which no list of recorded votes asks for
 abbrev pub chosen : VoteMultiplicity → Bool → Pair
@@ -29,10 +33,10 @@ chosen (Single a) later = a
 chosen (Equivocated a b) later = cond later b a
 
 unfoldable pub pair-of : Votes → List ℕ → List ℕ → ℕ → Pair
-pair-of v ids heights e = chosen (recorded v ids heights (e / 2)) (eqb (e % 2) 1)
+pair-of v ids numbers e = chosen (recorded v ids numbers (entry-index e)) (eqb (entry-pair e) 1)
 
 unfoldable pub record-of : Votes → List ℕ → List ℕ → List ℕ → ℕ → List ℕ
-record-of v voters ids heights e = vote-bytes (phase-of e) (col voters (e / 4)) (pair-of v ids heights e)
+record-of v voters ids numbers e = vote-bytes (phase-of e) (col voters (voter-of e)) (pair-of v ids numbers e)
 
 -- records one after the other
 unfoldable pub in-a-row : (ℕ → List ℕ) → List ℕ → List ℕ

@@ -1,15 +1,20 @@
-// Lists of recorded votes, as entries of history: entry 2i is the first pair at index i, 2i + 1 its second. An index is a
-// voter's bit, so that by rising entry is by rising voter.
+// Lists of recorded votes, as entries of history.
 ghost use mathlib.Core.Path.{_≡_};
-ghost use Prim.Native.Nat.{_*_, _≤_, _<_};
+ghost use Prim.Native.Nat.{_≤_, _<_};
+ghost use Rattle.sizes.specs.Sizes.{VOTERS, VOTES, HISTORY};
 ghost use Rattle.loops.specs.Listing.{front, keep};
-ghost use Rattle.context.specs.Votes.{offset};
-ghost use Rattle.nodes.specs.Nodes.{Falls, placed};
-ghost use Rattle.listing.specs.Entries.{counting, finalizes, suits, wants};
-ghost use Rattle.listing.specs.Written.{phase-of, chosen, pair-of, record-of, Lent, written};
-use climbs::wide;
+ghost use Rattle.lent.specs.Moment.{before};
+ghost use Rattle.nodes.specs.Nodes.{Falls};
+ghost use Rattle.tracker.specs.Votes.{votes-at};
+ghost use Rattle.entry_lists.specs.Entries.{Fit, entered};
+ghost use Rattle.listing.specs.Entries.{by-voter, phase-in, finalizes, suits, wants};
+ghost use Rattle.listing.specs.Written.{chosen, pair-of, record-of, Lent, written};
 use context::Phase;
-use nodes::Places;
+use entry_lists::Entries;
+use sizes::BLOCKS;
+use sizes::HISTORY;
+use sizes::VOTERS;
+use sizes::VOTES;
 use tracker::Pair;
 use tracker::VoteMultiplicity;
 
@@ -19,108 +24,86 @@ pub enum Wanted {
     Finalizing(u8),
 }
 
-fn odd(phase: Phase) -> usize
-    ensures { λ r. ⌜ r ≡ offset phase ⌝ }
+fn phase_in(wanted: Wanted) -> Phase
+    ensures { λ r. ⌜ r ≡ phase-in wanted ⌝ }
 {
-    match phase {
-        Phase::Prevote => 0,
-        Phase::Precommit => 1,
+    match wanted {
+        Wanted::Of(phase) => phase,
+        Wanted::Finalizing(_) => Phase::Precommit,
     }
 }
 
 // A single precommit where it is at or below the block, both of an equivocator always.
 fn finalizes<'a>(
-    times: &'a [u8; 128],
-    places: &'a [u8; 128],
-    parents: &'a [u8; 256],
+    counts: &'a [u8; VOTES],
+    first_block: &'a [u8; VOTES],
+    parents: &'a [u8; BLOCKS],
     block: u8,
     at: usize,
 ) -> bool
-    requires { ⌜ (Falls (now parents)) × (at < 128) ⌝ }
-    ensures { λ r. ⌜ r ≡ finalizes (now (times .entry)) (now (places .entry)) (now (parents .entry)) block at ⌝ }
+    requires { ⌜ (Falls (now parents)) × (at < VOTES) ⌝ }
+    ensures { λ r. ⌜ r ≡ finalizes (now (counts .entry)) (now («first_block» .entry)) (now (parents .entry)) block at ⌝ }
 {
-    if at % 2 == 0 {
-        return false;
-    }
-    if times[at] != 1 {
+    if counts[at] != 1 {
         return true;
     }
-    climbs::reaches(parents, block, places[at])
+    climbs::reaches(parents, block, first_block[at])
 }
 
 fn suits<'a>(
-    times: &'a [u8; 128],
-    places: &'a [u8; 128],
-    parents: &'a [u8; 256],
+    counts: &'a [u8; VOTES],
+    first_block: &'a [u8; VOTES],
+    parents: &'a [u8; BLOCKS],
     wanted: Wanted,
     at: usize,
 ) -> bool
-    requires { ⌜ (Falls (now parents)) × (at < 128) ⌝ }
-    ensures { λ r. ⌜ r ≡ suits (now (times .entry)) (now (places .entry)) (now (parents .entry)) wanted at ⌝ }
+    requires { ⌜ (Falls (now parents)) × (at < VOTES) ⌝ }
+    ensures { λ r. ⌜ r ≡ suits (now (counts .entry)) (now («first_block» .entry)) (now (parents .entry)) wanted at ⌝ }
 {
     match wanted {
-        Wanted::Of(phase) => at % 2 == odd(phase),
-        Wanted::Finalizing(block) => finalizes(times, places, parents, block, at),
+        Wanted::Of(_) => true,
+        Wanted::Finalizing(block) => finalizes(counts, first_block, parents, block, at),
     }
-}
-
-// Whether an entry is recorded and suits.
-fn wants<'a>(
-    times: &'a [u8; 128],
-    places: &'a [u8; 128],
-    parents: &'a [u8; 256],
-    wanted: Wanted,
-    entry: usize,
-) -> bool
-    requires { ⌜ (Falls (now parents)) × (entry < 256) ⌝ }
-    ensures { λ r. ⌜ r ≡ wants (now (times .entry)) (now (places .entry)) (now (parents .entry)) wanted entry ⌝ }
-{
-    let at = entry / 2;
-    if wide(times[at]) <= entry % 2 {
-        return false;
-    }
-    suits(times, places, parents, wanted, at)
 }
 
 // The wanted entries of the first `size` voters, by rising voter.
 pub fn entries_of<'a>(
-    times: &'a [u8; 128],
-    places: &'a [u8; 128],
-    parents: &'a [u8; 256],
+    counts: &'a [u8; VOTES],
+    first_block: &'a [u8; VOTES],
+    parents: &'a [u8; BLOCKS],
     size: usize,
     wanted: Wanted,
-) -> Places
-    requires { ⌜ (Falls (now parents)) × (size ≤ 64) ⌝ }
-    ensures { λ r. ⌜ r ≡ placed (keep (wants (now (times .entry)) (now (places .entry)) (now (parents .entry)) wanted) (counting (4 * size))) ⌝ }
+) -> Entries
+    requires { ⌜ (Falls (now parents)) × (size ≤ VOTERS) ⌝ }
+    ensures { λ r. ⌜ r ≡ entered (keep (wants (now (counts .entry)) (now («first_block» .entry)) (now (parents .entry)) wanted) (by-voter (phase-in wanted) size)) ⌝ }
 {
-    let mut entries = [0u8; 256];
+    let phase = phase_in(wanted);
+    let mut entries = [0u16; HISTORY];
     let mut n = 0;
-    for e in 0..4 * size {
-        if !wants(times, places, parents, wanted, e) {
+    for place in 0..size {
+        let at = context::index(place, phase);
+        let pairs = counts[at];
+        if pairs == 0 {
             continue;
         }
-        entries[n] = e as u8;
+        if !suits(counts, first_block, parents, wanted, at) {
+            continue;
+        }
+        entries[n] = layouts::entry(at, 0);
+        n = n + 1;
+        if pairs == 1 {
+            continue;
+        }
+        entries[n] = layouts::entry(at, 1);
         n = n + 1;
     }
-    Places {
-        places: entries,
-        count: n,
-    }
+    Entries { entries, count: n }
 }
 
 // How many bytes were written, or a refusal's number.
 pub enum Written {
     Bytes(usize),
     Refused(u8),
-}
-
-fn phase_of(entry: usize) -> Phase
-    ensures { λ r. ⌜ r ≡ phase-of entry ⌝ }
-{
-    if entry / 2 % 2 == 0 {
-        return Phase::Prevote;
-    }
-    Phase::Precommit
 }
 
 fn chosen(recorded: VoteMultiplicity, later: bool) -> Pair
@@ -144,71 +127,74 @@ fn chosen(recorded: VoteMultiplicity, later: bool) -> Pair
 
 // The pair of an entry.
 fn pair_of<'a>(
-    times: &'a [u8; 128],
-    places: &'a [u8; 128],
-    signatures: &'a [u64; 128],
-    targets: &'a [u32; 128],
-    numbers: &'a [u32; 128],
-    seconds: &'a [u64; 128],
-    ids: &'a [u32; 256],
-    heights: &'a [u32; 256],
-    entry: usize,
+    counts: &'a [u8; VOTES],
+    first_block: &'a [u8; VOTES],
+    first_signature: &'a [u64; VOTES],
+    second_target: &'a [u32; VOTES],
+    second_number: &'a [u32; VOTES],
+    second_signature: &'a [u64; VOTES],
+    ids: &'a [u32; BLOCKS],
+    numbers: &'a [u32; BLOCKS],
+    entry: u16,
 ) -> Pair
-    requires { ⌜ entry < 256 ⌝ }
-    ensures { λ r. ⌜ r ≡ pair-of (record { times = now (times .entry); places = now (places .entry); signatures = now (signatures .entry); targets = now (targets .entry); numbers = now (numbers .entry); seconds = now (seconds .entry) }) (now (ids .entry)) (now (heights .entry)) entry ⌝ }
+    requires { ⌜ entry < HISTORY ⌝ }
+    ensures { λ r. ⌜ r ≡ pair-of (votes-at before counts «first_block» «first_signature» «second_target» «second_number» «second_signature») (now (ids .entry)) (now (numbers .entry)) entry ⌝ }
 {
     let recorded = tracker::recorded(
-        times,
-        places,
-        signatures,
-        targets,
-        numbers,
-        seconds,
+        counts,
+        first_block,
+        first_signature,
+        second_target,
+        second_number,
+        second_signature,
         ids,
-        heights,
-        entry / 2,
+        numbers,
+        layouts::entry_index(entry),
     );
-    chosen(recorded, entry % 2 == 1)
+    chosen(recorded, layouts::entry_pair(entry) == 1)
 }
 
 // The records of entries, from the start of what is lent; the bytes after the last stay.
 pub fn write<'a>(
-    entries: &'a [u8; 256],
+    entries: &'a [u16; HISTORY],
     count: usize,
-    times: &'a [u8; 128],
-    places: &'a [u8; 128],
-    signatures: &'a [u64; 128],
-    targets: &'a [u32; 128],
-    numbers: &'a [u32; 128],
-    seconds: &'a [u64; 128],
-    voters: &'a [u32; 64],
-    ids: &'a [u32; 256],
-    heights: &'a [u32; 256],
+    counts: &'a [u8; VOTES],
+    first_block: &'a [u8; VOTES],
+    first_signature: &'a [u64; VOTES],
+    second_target: &'a [u32; VOTES],
+    second_number: &'a [u32; VOTES],
+    second_signature: &'a [u64; VOTES],
+    voters: &'a [u32; VOTERS],
+    ids: &'a [u32; BLOCKS],
+    numbers: &'a [u32; BLOCKS],
     out: &mut [u8],
 ) -> Written
-    requires { ⌜ count ≤ 256 ⌝ }
+    requires { ⌜ (count ≤ HISTORY) × Fit (now entries) count ⌝ }
     ensures { λ r. ⌜ _≡_ {A = Lent} (record { answer = r; bytes = now (out .exit) })
-        (written (record-of (record { times = now (times .entry); places = now (places .entry); signatures = now (signatures .entry); targets = now (targets .entry); numbers = now (numbers .entry); seconds = now (seconds .entry) }) (now (voters .entry)) (now (ids .entry)) (now (heights .entry))) (front count (now (entries .entry))) (now (out .entry))) ⌝ }
+        (written (record-of (votes-at before counts «first_block» «first_signature» «second_target» «second_number» «second_signature») (now (voters .entry)) (now (ids .entry)) (now (numbers .entry)))
+        (front count (now (entries .entry))) (now (out .entry))) ⌝ }
 {
     if out.len() < 22 * count {
         return Written::Refused(14);
     }
     let mut used = 0;
     for k in 0..count {
-        let entry = wide(entries[k]);
-        let phase = phase_of(entry);
+        let entry = entries[k];
+        let at = layouts::entry_index(entry);
+        let phase = context::phase_at(at);
         let pair = pair_of(
-            times,
-            places,
-            signatures,
-            targets,
-            numbers,
-            seconds,
+            counts,
+            first_block,
+            first_signature,
+            second_target,
+            second_number,
+            second_signature,
             ids,
-            heights,
+            numbers,
             entry,
         );
-        records::put_vote(&mut out[used..], phase, voters[entry / 4], pair);
+        let place = layouts::index_place(at);
+        records::put_vote(&mut out[used..], phase, voters[place], pair);
         used = used + 22;
     }
     Written::Bytes(used)

@@ -7,6 +7,7 @@ use native.Mathlib.Numerals.{add-one}
 use native.Mathlib.Omega.{arith}
 use lib.ListN.{getD, set, length, take, length-append, replicate}
 use lib.Seq.{take-suc, take-length}
+use Rattle.sizes.specs.Sizes.{BLOCKS}
 use Rattle.loops.specs.Listing.{front, keep}
 use Rattle.columns.specs.Lists.{padded}
 use Rattle.columns.proofs.Padded.{get-padded, next-padded}
@@ -43,10 +44,10 @@ length-kept p k xs = omega (arith, length-keep p (front k xs), length-front k xs
 -- the list that such a loop has laid down
 pub record Laid (p : ℕ → Bool) (xs : List ℕ) (k : ℕ) (places : List ℕ) (n : ℕ) : Type 0 where
   pub count-is : n ≡ length (keep p (front k xs))
-  pub places-are : places ≡ padded 256 (keep p (front k xs))
+  pub places-are : places ≡ padded BLOCKS (keep p (front k xs))
 
 module _ (p : ℕ → Bool) (xs : List ℕ) where
-  pub laid-none : Laid p xs 0 (replicate 256 0) 0
+  pub laid-none : Laid p xs 0 (replicate BLOCKS 0) 0
   unfolding front keep padded
   laid-none = record { count-is = refl; places-are = refl }
 
@@ -57,17 +58,17 @@ module _ (p : ℕ → Bool) (xs : List ℕ) where
   laid-skip k places n e l =
       record {
         count-is = l .count-is ∙ ap length (sym (drop-front p k xs e));
-        places-are = l .places-are ∙ ap (padded 256) (sym (drop-front p k xs e));
+        places-are = l .places-are ∙ ap (padded BLOCKS) (sym (drop-front p k xs e));
       }
 
-  pub laid-next : (k : ℕ) (places : List ℕ) (n : ℕ) → k < 256 → p (getD xs k 0) ≡ true → Laid p xs k places n
+  pub laid-next : (k : ℕ) (places : List ℕ) (n : ℕ) → k < BLOCKS → p (getD xs k 0) ≡ true → Laid p xs k places n
       → Laid p xs (k + 1) (set places n (getD xs k 0)) (n + 1)
   laid-next k places n h e l =
       record {
         count-is = rw (keep-front p k xs e) (omega (arith, l .count-is, length-append (keep p (front k xs)) (getD xs k 0 ∷ [])));
         places-are =
             rw (l .places-are, l .count-is)
-            (next-padded 256 (keep p (front k xs)) (getD xs k 0) (omega (arith, length-kept p k xs)) ∙ ap (padded 256) (sym (keep-front p k xs e)));
+            (next-padded BLOCKS (keep p (front k xs)) (getD xs k 0) (omega (arith, length-kept p k xs)) ∙ ap (padded BLOCKS) (sym (keep-front p k xs e)));
       }
 
   pub laid-end : (n m : ℕ) (places : List ℕ) (k : ℕ) → Laid p xs k places m → k ≡ n → record { places = places; count = m } ≡ placed (keep p (front n xs))
@@ -85,13 +86,13 @@ unfolding front
 front-cong zero xs ys h = refl
 front-cong (suc n) xs ys h = rw (front-cong n xs ys h, h n)
 
-pub front-padded : (l : List ℕ) → front (length l) (padded 256 l) ≡ l
-front-padded l = front-cong (length l) (padded 256 l) l (get-padded 256 l) ∙ front-take (length l) l (omega arith) ∙ take-length l
+pub front-padded : (n : ℕ) (l : List ℕ) → front (length l) (padded n l) ≡ l
+front-padded n l = front-cong (length l) (padded n l) l (get-padded n l) ∙ front-take (length l) l (omega arith) ∙ take-length l
 
 -- a list comes back from the column and the count that hold it
 pub placed-front : (m : Places) (l : List ℕ) → m ≡ placed l → front (m .count) (m .places) ≡ l
 unfolding placed
-placed-front m l e = ap (λ (q : Places). front (q .count) (q .places)) e ∙ front-padded l
+placed-front m l e = ap (λ (q : Places). front (q .count) (q .places)) e ∙ front-padded BLOCKS l
 
 pub placed-count : (m : Places) (l : List ℕ) → m ≡ placed l → m .count ≡ length l
 unfolding placed

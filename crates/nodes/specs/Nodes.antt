@@ -5,6 +5,7 @@ use mathlib.Core.List.{List, []}
 use Prim.Native.Nat.{ℕ, zero, suc}
 use lib.Dec.{leb, eqb}
 use lib.ListN.{length}
+use Rattle.sizes.specs.Sizes.{BLOCKS}
 use Rattle.loops.specs.Listing.{keep, fold}
 use Rattle.columns.specs.Lists.{padded}
 use Rattle.grandpa.specs.Tree.{below}
@@ -19,7 +20,7 @@ use Rattle.nodes.specs.declared.Question.{Question}
 
 -- a list of places as the code holds it
 unfoldable pub placed : List ℕ → Places
-placed l = record { places = padded 256 l; count = length l }
+placed l = record { places = padded BLOCKS l; count = length l }
 
 -- the node whose edge holds b, from a node on, by the nodes above: a node whose edge begins past b is left by one jump
 unfoldable pub held-from : (ℕ → ℕ) → (ℕ → ℕ) → ℕ → ℕ → ℕ → ℕ

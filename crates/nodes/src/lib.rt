@@ -2,6 +2,7 @@
 // its block.
 ghost use mathlib.Core.Path.{_≡_};
 ghost use Prim.Native.Nat.{_≤_, _<_};
+ghost use Rattle.sizes.specs.Sizes.{BLOCKS};
 ghost use Rattle.loops.specs.Listing.{front, keep};
 ghost use Rattle.graph.specs.Graph.{join-of};
 ghost use Rattle.graph.specs.Ghost.{under};
@@ -10,10 +11,13 @@ ghost use Rattle.nodes.specs.Nodes.{placed, passes, listed-under};
 use climbs::wide;
 use context::Phase;
 use grandpa::PossibleToPrecommit;
+use sizes::BLOCKS;
+use sizes::VOTERS;
+use sizes::WORDS;
 
 // Places in the order in which they were found.
 pub struct Places {
-    pub places: [u8; 256],
+    pub places: [u8; BLOCKS],
     pub count: usize,
 }
 
@@ -33,15 +37,19 @@ pub enum Condition {
 pub struct Question {
     pub phase: Phase,
     pub condition: Condition,
-    pub equivocations: [u64; 2],
+    pub equivocations: [u64; WORDS],
 }
 
 // The joined bits of the nodes at places.
-pub fn join_of<'a>(rows: &'a [[u64; 2]; 256], places: &'a [u8; 256], count: usize) -> [u64; 2]
-    requires { ⌜ count ≤ 256 ⌝ }
+pub fn join_of<'a>(
+    rows: &'a [[u64; WORDS]; BLOCKS],
+    places: &'a [u8; BLOCKS],
+    count: usize,
+) -> [u64; WORDS]
+    requires { ⌜ count ≤ BLOCKS ⌝ }
     ensures { λ r. ⌜ r ≡ join-of (row (now (rows .entry))) (front count (now (places .entry))) ⌝ }
 {
-    let mut bits = [0u64; 2];
+    let mut bits = [0u64; WORDS];
     for k in 0..count {
         let node = wide(places[k]);
         let more = bitfield::merge(bits, rows[node]);
@@ -51,7 +59,7 @@ pub fn join_of<'a>(rows: &'a [[u64; 2]; 256], places: &'a [u8; 256], count: usiz
 }
 
 // Whether a question is answered yes of joined bits.
-pub fn passes(weights: &[u64; 64], question: Question, bits: [u64; 2]) -> bool
+pub fn passes(weights: &[u64; VOTERS], question: Question, bits: [u64; WORDS]) -> bool
     ensures { λ r. ⌜ r ≡ passes (now (weights .entry)) question bits ⌝ }
 {
     let phase = question.phase;
@@ -65,11 +73,16 @@ pub fn passes(weights: &[u64; 64], question: Question, bits: [u64; 2]) -> bool
 }
 
 // The nodes listed under a node, in their order.
-pub fn children<'a>(above: &'a [u8; 256], order: &'a [u8; 256], listed: usize, node: u8) -> Places
-    requires { ⌜ listed ≤ 256 ⌝ }
+pub fn children<'a>(
+    above: &'a [u8; BLOCKS],
+    order: &'a [u8; BLOCKS],
+    listed: usize,
+    node: u8,
+) -> Places
+    requires { ⌜ listed ≤ BLOCKS ⌝ }
     ensures { λ r. ⌜ r ≡ placed (listed-under (col (now (above .entry))) (front listed (now (order .entry))) node) ⌝ }
 {
-    let mut places = [0u8; 256];
+    let mut places = [0u8; BLOCKS];
     let mut count = 0;
     for k in 0..listed {
         let child = order[k];
@@ -84,15 +97,15 @@ pub fn children<'a>(above: &'a [u8; 256], order: &'a [u8; 256], listed: usize, n
 
 // Those of some places that lie strictly below a block.
 pub fn strictly_below<'a>(
-    parents: &'a [u8; 256],
-    places: &'a [u8; 256],
+    parents: &'a [u8; BLOCKS],
+    places: &'a [u8; BLOCKS],
     count: usize,
     block: u8,
 ) -> Places
-    requires { ⌜ (Falls (now parents)) × (count ≤ 256) ⌝ }
+    requires { ⌜ (Falls (now parents)) × (count ≤ BLOCKS) ⌝ }
     ensures { λ r. ⌜ r ≡ placed (keep (under (col (now (parents .entry))) block) (front count (now (places .entry)))) ⌝ }
 {
-    let mut kept = [0u8; 256];
+    let mut kept = [0u8; BLOCKS];
     let mut n = 0;
     for k in 0..count {
         let place = places[k];
@@ -108,7 +121,7 @@ pub fn strictly_below<'a>(
     }
 }
 
-fn is_under(parents: &[u8; 256], block: u8, place: u8) -> bool
+fn is_under(parents: &[u8; BLOCKS], block: u8, place: u8) -> bool
     requires { ⌜ Falls (now parents) ⌝ }
     ensures { λ r. ⌜ r ≡ under (col (now (parents .entry))) block place ⌝ }
 {

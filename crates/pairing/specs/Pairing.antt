@@ -4,6 +4,7 @@ use mathlib.Core.List.{List}
 use Prim.Native.Nat.{ℕ, _+_}
 use lib.Dec.{leb}
 use lib.ListN.{set}
+use Rattle.sizes.specs.Sizes.{PAIRS}
 use Rattle.marks.specs.declared.Mark.{Mark}
 use Rattle.marks.specs.declared.Mark.the-variants.{Vt, Rt, Bk, Op, Pv, Pc}
 use Rattle.marks.specs.Marks.{word, long}
@@ -17,7 +18,7 @@ with-pair p voter weight =
 
 -- a record in the first turn; the Rt ends it
 unfoldable pub paired : Pairs → Mark → List ℕ → Next Pairs
-paired p Vt fs = cond (leb 256 (p .count)) (stops 1) (goes (with-pair p (word fs 0) (long fs 4)))
+paired p Vt fs = cond (leb PAIRS (p .count)) (stops 1) (goes (with-pair p (word fs 0) (long fs 4)))
 paired p Rt fs = leaves
 paired p Bk fs = stops 18
 paired p Op fs = stops 18

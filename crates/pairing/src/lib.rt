@@ -2,6 +2,7 @@
 ghost use mathlib.Core.Path.{_≡_};
 ghost use Prim.Native.Nat.{_≤_};
 ghost use lib.ListN.{length, drop};
+ghost use Rattle.sizes.specs.Sizes.{PAIRS};
 ghost use Rattle.marks.specs.Marks.{size};
 ghost use Rattle.marks.specs.declared.Turn.the-variants.{Over};
 ghost use Rattle.runs.specs.Run.{Run, ran};
@@ -12,11 +13,12 @@ use marks::End;
 use marks::Mark;
 use marks::Record;
 use marks::Turn;
+use sizes::PAIRS;
 
 // Pairs in the order in which they came; the first `count` places are used.
 pub struct Pairs {
-    pub ids: [u32; 256],
-    pub weights: [u64; 256],
+    pub ids: [u32; PAIRS],
+    pub weights: [u64; PAIRS],
     pub count: usize,
 }
 
@@ -46,19 +48,19 @@ fn over(end: End, pairs: usize) -> Took
 
 // A record in the first turn.
 fn take(
-    ids: &mut [u32; 256],
-    weights: &mut [u64; 256],
+    ids: &mut [u32; PAIRS],
+    weights: &mut [u64; PAIRS],
     pairs: usize,
     mark: Mark,
     fields: &[u8],
 ) -> Took
-    requires { ⌜ (pairs ≤ 256) × (length (now fields) ≡ size mark) ⌝ }
+    requires { ⌜ (pairs ≤ PAIRS) × (length (now fields) ≡ size mark) ⌝ }
     ensures { λ r. ⌜ _≡_ {A = Tried Pairs} (record { state = record { ids = now (ids .exit); weights = now (weights .exit); count = r .pairs }; turn = r .turn }) (tried paired (record { ids = now (ids .entry); weights = now (weights .entry); count = pairs }) mark (now (fields .entry))) ⌝ }
-    ensures { λ r. ⌜ r .pairs ≤ 256 ⌝ }
+    ensures { λ r. ⌜ r .pairs ≤ PAIRS ⌝ }
 {
     match mark {
         Mark::Vt => {
-            if 256 <= pairs {
+            if PAIRS <= pairs {
                 return over(End::Refused(1), pairs);
             }
             ids[pairs] = marks::word(fields, 0);
@@ -77,10 +79,10 @@ fn take(
 }
 
 // The records of some bytes, up to the first that is not one of this turn.
-pub fn run(ids: &mut [u32; 256], weights: &mut [u64; 256], count: usize, bytes: &[u8]) -> Paired
-    requires { ⌜ count ≤ 256 ⌝ }
+pub fn run(ids: &mut [u32; PAIRS], weights: &mut [u64; PAIRS], count: usize, bytes: &[u8]) -> Paired
+    requires { ⌜ count ≤ PAIRS ⌝ }
     ensures { λ r. ⌜ _≡_ {A = Run Pairs} (record { state = record { ids = now (ids .exit); weights = now (weights .exit); count = r .pairs }; count = r .count; rest = drop (r .at) (now (bytes .entry)); end = r .end }) (ran paired (record { ids = now (ids .entry); weights = now (weights .entry); count = count }) (now (bytes .entry))) ⌝ }
-    ensures { λ r. ⌜ (r .pairs ≤ 256) × (r .count ≤ r .at) × (r .at ≤ length (now (bytes .entry))) ⌝ }
+    ensures { λ r. ⌜ (r .pairs ≤ PAIRS) × (r .count ≤ r .at) × (r .at ≤ length (now (bytes .entry))) ⌝ }
 {
     let mut pairs = count;
     let mut taken = 0u64;

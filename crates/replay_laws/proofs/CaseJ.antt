@@ -26,6 +26,7 @@ use Rattle.blocks.specs.Add.{place-of, append, step}
 use Rattle.block_table.specs.Add as table
 use Rattle.context.specs.Votes.{weightOf, heardIn}
 use Rattle.context.specs.Votes as votes
+use Rattle.layouts.specs.Layout as layout
 use Rattle.graph.specs.Ghost.{find-ancestor, towards, first-in, meets, merge, settle, following, find-ghost}
 use Rattle.graph.specs.Graph.{join-of, tally, children, relist, add-node}
 use Rattle.graph.specs.Graph as graph
@@ -111,5 +112,5 @@ pub document-01 :
     × (round-after four-precommits .answers .estimate ≡ At 1)
     × (round-after four-precommits .answers .completable ≡ true)
 unfolding
-    vote-bytes all any times keep some-of fold front loops.run first sum find contains padded shift inWord has put words joined blank mask every search-up first-of finalized-of estimate-of completable-of told-from climb within below pairs.enter voters info look-up new place-of append step table.opened votes.voted weightOf heardIn find-ancestor towards first-in meets merge settle following find-ghost join-of tally children graph.enter relist add-node graph.mark graph.insert hold-from lead hold note containing until nearest placed held-from held found listed-under passes insert.opened set-all insert.added marked-from marked inserted recorded cast phase-ghost update judge-first judge import named read fields after word long runs.run ran paired growing.added grown counted voting.voted rooted based took round-of run-from kept-rest after-run replayed
+    vote-bytes all any times keep some-of fold front loops.run first sum find contains padded shift inWord has put words joined blank mask every search-up first-of finalized-of estimate-of completable-of told-from climb within below pairs.enter voters info look-up new place-of append step table.opened layout.RUN layout.bit layout.index votes.bit votes.voted weightOf heardIn find-ancestor towards first-in meets merge settle following find-ghost join-of tally children graph.enter relist add-node graph.mark graph.insert hold-from lead hold note containing until nearest placed held-from held found listed-under passes insert.opened set-all insert.added marked-from marked inserted recorded cast phase-ghost update judge-first judge import named read fields after word long runs.run ran paired growing.added grown counted voting.voted rooted based took round-of run-from kept-rest after-run replayed
 document-01 = (refl, refl, refl, refl, refl, refl, refl, refl, refl, refl)

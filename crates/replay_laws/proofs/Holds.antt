@@ -18,12 +18,12 @@ use Rattle.blocks.specs.declared.Place.{Place}
 use Rattle.blocks.specs.declared.Place.the-variants.{At, Nothing}
 use Rattle.blocks.specs.Add.{place-of, on-place, step}
 use Rattle.block_table.specs.Add.{opened}
-use Rattle.importing.specs.Import.{import}
+use Rattle.importing.specs.Import.{import, with-table}
 use Rattle.tracker.specs.declared.Pair.{Pair}
 use Rattle.judging.specs.declared.ImportResult.{ImportResult}
 use Rattle.judging.specs.declared.ImportResult.the-variants as result
 use Rattle.held_laws.specs.Kept.{Kept}
-use Rattle.held_laws.specs.Reached.{Reached, with-table}
+use Rattle.held_laws.specs.Reached.{Reached}
 use Rattle.context.specs.declared.Phase.{Phase}
 use Rattle.context.specs.declared.Phase.the-variants.{Prevote, Precommit}
 use Rattle.marks.specs.declared.Mark.{Mark}

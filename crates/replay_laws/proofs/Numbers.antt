@@ -8,6 +8,7 @@ use native.Mathlib.Omega.{arith}
 use lib.Dec.{eqb, leb, ltb}
 use lib.ListN.{length, getD, take, set, length-take, length-set}
 use borrow.Author.Tests.{eq-eqb, le-ltb, leb-false}
+use Rattle.sizes.specs.Sizes.{VOTERS, PAIRS, BLOCKS}
 use Rattle.grandpa.specs.Tree.{below}
 use Rattle.columns.specs.Find.{contains}
 use Rattle.weights.specs.Weights.{most}
@@ -86,13 +87,13 @@ abbrev Of-set : Answer → Type 0
 Of-set Made = Unit {0}
 Of-set (Refused n) = (2 ≤ n) × (n ≤ 4)
 
-new-numbers : (ids weights : List ℕ) → length ids ≡ length weights → length ids ≤ 256 → Of-set (new ids weights .answer)
+new-numbers : (ids weights : List ℕ) → length ids ≡ length weights → length ids ≤ PAIRS → Of-set (new ids weights .answer)
 unfolding new
 new-numbers ids weights same few =
-    rw (eq-eqb (length ids) (length weights) same, le-ltb 256 (length ids) few)
+    rw (eq-eqb (length ids) (length weights) same, le-ltb PAIRS (length ids) few)
     (either P (ltb most (total-of weights)) (set.refused 2) _ (omega arith, omega arith)
     (either P (eqb (total-of weights) 0) (set.refused 3) _ (omega arith, omega arith)
-    (either P (ltb 64 (length (pairs.voters ids weights (length ids)))) (set.refused 4) _ (omega arith, omega arith) tt)))
+    (either P (ltb VOTERS (length (pairs.voters ids weights (length ids)))) (set.refused 4) _ (omega arith, omega arith) tt)))
   where
     P : NewVoterSet → Type 0
     P x = Of-set (x .answer)
@@ -114,7 +115,7 @@ step-numbers t id parent =
     under Nothing = (omega arith, omega arith)
     under (At k) =
         either P (eqb (getD (t .numbers) k 0) 4294967295) (refused t 7) _ (omega arith, omega arith)
-        (either P (eqb (t .count) 256) (refused t 8) (placed t id k) (omega arith, omega arith) tt)
+        (either P (eqb (t .count) BLOCKS) (refused t 8) (placed t id k) (omega arith, omega arith) tt)
 
 -- a vote: 11 to 13
 abbrev Of-vote : ImportResult → Type 0
@@ -130,17 +131,17 @@ Of-verdict (verdict.Nothing a) = Of-vote a
 Of-verdict (verdict.First v b) = Unit {0}
 Of-verdict (verdict.Second v a) = Unit {0}
 
-first-numbers : (ids heights parents : List ℕ) (count base : ℕ) (v : VoterInfo) (p : Pair) → Of-verdict (judge-first ids heights parents count base v p)
+first-numbers : (ids numbers parents : List ℕ) (count base : ℕ) (v : VoterInfo) (p : Pair) → Of-verdict (judge-first ids numbers parents count base v p)
 unfolding judge-first
-first-numbers ids heights parents count base v p = at-place (place-of ids count (p .target))
+first-numbers ids numbers parents count base v p = at-place (place-of ids count (p .target))
   where
     at-place : (o : Place)
         → Of-verdict (on-place o
-        (λ b. cond (eqb (col heights b) (p .number)) (cond (below (col parents) base b) (verdict.First v b) (judging.refused 13)) (judging.refused 12))
+        (λ b. cond (eqb (col numbers b) (p .number)) (cond (below (col parents) base b) (verdict.First v b) (judging.refused 13)) (judging.refused 12))
         (judging.refused 11))
     at-place Nothing = (omega arith, omega arith)
     at-place (At b) =
-        either Of-verdict (eqb (col heights b) (p .number)) _ (judging.refused 12)
+        either Of-verdict (eqb (col numbers b) (p .number)) _ (judging.refused 12)
         (either Of-verdict (below (col parents) base b) (verdict.First v b) (judging.refused 13) tt (omega arith, omega arith)) (omega arith, omega arith)
 
 rule-numbers : (a : AddVoteResult) (first : Verdict) (v : VoterInfo) → Of-verdict first → Of-verdict (by-rule a first v)
@@ -204,7 +205,7 @@ based-numbers v t fs = go (place-of (t .ids) (t .count) (word fs 8))
 -- the number of a refused record is one of its own
 pub took-numbers : (j : Journal) → Paired j → (m : Mark) (fs : List ℕ) → Numbered (Own (part-of j) m) (took j m fs)
 unfolding took paired grown voted counted growing.added
-took-numbers (pairing p) h Vt fs = go (leb 256 (p .count))
+took-numbers (pairing p) h Vt fs = go (leb PAIRS (p .count))
   where
     go : (b : Bool)
         → Numbered (Own voters Vt) (on-next (cond b (stops 1) (goes (with-pair p (word fs 0) (long fs 4)))) (λ q. goes (pairing q)) stops (rooted p fs))
@@ -266,12 +267,12 @@ own-means votes Pc n h = ((λ e. omega (arith, h .0, h .1)), λ e. absurd (omega
 -- arrays keep their sizes
 pairs-sized : (p : Pairs) → Paired (pairing p) → (m : Mark) (fs : List ℕ) → Then (λ (q : Pairs). Paired (pairing q)) (paired p m fs)
 unfolding paired
-pairs-sized p h Vt fs = go (leb 256 (p .count)) refl
+pairs-sized p h Vt fs = go (leb PAIRS (p .count)) refl
   where
-    go : (b : Bool) → leb 256 (p .count) ≡ b → Then (λ (q : Pairs). Paired (pairing q)) (cond b (stops 1) (goes (with-pair p (word fs 0) (long fs 4))))
+    go : (b : Bool) → leb PAIRS (p .count) ≡ b → Then (λ (q : Pairs). Paired (pairing q)) (cond b (stops 1) (goes (with-pair p (word fs 0) (long fs 4))))
     go true e = tt
     go false e =
-        (length-set (p .ids) (p .count) (word fs 0) ∙ h .0, length-set (p .weights) (p .count) (long fs 4) ∙ h .1, omega (arith, leb-false 256 (p .count) e))
+        (length-set (p .ids) (p .count) (word fs 0) ∙ h .0, length-set (p .weights) (p .count) (long fs 4) ∙ h .1, omega (arith, leb-false PAIRS (p .count) e))
 pairs-sized p h Rt fs = tt
 pairs-sized p h Bk fs = tt
 pairs-sized p h Op fs = tt

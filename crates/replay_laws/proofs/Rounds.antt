@@ -13,9 +13,9 @@ use Rattle.block_shape.proofs.Shapes.{shaped-tabled}
 use Rattle.block_laws.proofs.Adds.{stands-found}
 use Rattle.context.specs.declared.Phase.{Phase}
 use Rattle.tracker.specs.declared.Pair.{Pair}
-use Rattle.importing.specs.Import.{Frame, Held, import}
+use Rattle.importing.specs.Import.{Frame, Held, import, opened-held, with-table}
 use Rattle.held_laws.specs.Kept.{Kept}
-use Rattle.held_laws.specs.Reached.{opened-held, Opens, with-table}
+use Rattle.held_laws.specs.Reached.{Opens}
 use Rattle.held_laws.proofs.Keeps.{import-keeps}
 use Rattle.held_laws.proofs.Adds.{adding-keeps}
 use Rattle.round.specs.declared.Round.{Round}

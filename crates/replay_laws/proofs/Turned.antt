@@ -6,6 +6,7 @@ use Prim.Native.Nat.{ℕ}
 use native.Mathlib.Omega.{arith}
 use lib.Dec.{T, leb}
 use lib.ListN.{take}
+use Rattle.sizes.specs.Sizes.{PAIRS}
 use Rattle.loops.proofs.Tests.{T-true}
 use Rattle.voter_set.specs.declared.VoterSet.{VoterSet}
 use Rattle.voter_set.specs.declared.Answer.{Answer}
@@ -84,7 +85,7 @@ votes-part r m fs =
 
 took-next : (j : Journal) (m : Mark) (fs : List ℕ) → Then (Goes-to (next (part-of j) m)) (took j m fs)
 unfolding took paired grown voted
-took-next (pairing p) Vt fs = go (leb 256 (p .count))
+took-next (pairing p) Vt fs = go (leb PAIRS (p .count))
   where
     go : (b : Bool)
         → Then (Goes-to voters) (on-next (cond b (stops 1) (goes (with-pair p (word fs 0) (long fs 4)))) (λ q. goes (pairing q)) stops (rooted p fs))

@@ -1,7 +1,7 @@
 -- A vote's record, as it is written, is read as the same vote.
 use mathlib.Core.List.{List, [], _∷_, _++_, map, append-assoc}
 use mathlib.Core.Path.{_≡_, refl, sym, ap, _∙_}
-use Prim.Native.Nat.{ℕ, _+_, _/_, _^_, _<_, _≤_}
+use Prim.Native.Nat.{ℕ, _+_, _^_, _<_, _≤_}
 use native.Mathlib.Omega.{arith}
 use lib.ListN.{length}
 use lib.Seq.{drop-at}
@@ -13,7 +13,7 @@ use Rattle.tracker.specs.declared.Pair.{Pair}
 use Rattle.importing.specs.Import.{import}
 use Rattle.records.specs.Bytes.{little, vote-bytes}
 use Rattle.records.proofs.Bytes.{length-vote, number-back}
-use Rattle.listing.specs.Written.{phase-of, pair-of, record-of, in-a-row}
+use Rattle.listing.specs.Written.{phase-of, voter-of, pair-of, record-of, in-a-row}
 use Rattle.marks.specs.declared.Named.the-variants as name
 use Rattle.marks.specs.declared.Record.the-variants as is
 use Rattle.marks.specs.Marks.{named, size, read, fields, after, word, long}
@@ -123,12 +123,12 @@ module _ (phase : Phase) (voter : ℕ) (pair : Pair) where
             answered (record { frame = r .frame; held = import (r .frame) phase w p (r .held) .held }) (import (r .frame) phase w p (r .held) .answer)
 
 -- a list of votes that a round writes: as many records, in their order
-pub list-parsed : (v : Votes) (voters ids heights es more : List ℕ)
-    → parsed (in-a-row (record-of v voters ids heights) es ++ more)
-    ≡ map (λ (e : ℕ). vote-entry (phase-of e) (col voters (e / 4)) (pair-of v ids heights e)) es ++ parsed more
+pub list-parsed : (v : Votes) (voters ids numbers es more : List ℕ)
+    → parsed (in-a-row (record-of v voters ids numbers) es ++ more)
+    ≡ map (λ (e : ℕ). vote-entry (phase-of e) (col voters (voter-of e)) (pair-of v ids numbers e)) es ++ parsed more
 unfolding in-a-row record-of
-list-parsed v voters ids heights [] more = refl
-list-parsed v voters ids heights (e ∷ es) more =
-    ap parsed (append-assoc (vote-bytes (phase-of e) (col voters (e / 4)) (pair-of v ids heights e)) (in-a-row (record-of v voters ids heights) es) more)
-    ∙ vote-parsed (phase-of e) (col voters (e / 4)) (pair-of v ids heights e) (in-a-row (record-of v voters ids heights) es ++ more)
-    ∙ ap (λ (l : List Entry). vote-entry (phase-of e) (col voters (e / 4)) (pair-of v ids heights e) ∷ l) (list-parsed v voters ids heights es more)
+list-parsed v voters ids numbers [] more = refl
+list-parsed v voters ids numbers (e ∷ es) more =
+    ap parsed (append-assoc (vote-bytes (phase-of e) (col voters (voter-of e)) (pair-of v ids numbers e)) (in-a-row (record-of v voters ids numbers) es) more)
+    ∙ vote-parsed (phase-of e) (col voters (voter-of e)) (pair-of v ids numbers e) (in-a-row (record-of v voters ids numbers) es ++ more)
+    ∙ ap (λ (l : List Entry). vote-entry (phase-of e) (col voters (voter-of e)) (pair-of v ids numbers e) ∷ l) (list-parsed v voters ids numbers es more)

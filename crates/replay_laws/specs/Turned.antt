@@ -5,6 +5,7 @@ use Prim.Native.Nat.{ℕ, _≤_}
 use lib.Dec.{T}
 use lib.ListN.{length}
 use mathlib.Core.List.{List, [], _∷_}
+use Rattle.sizes.specs.Sizes.{PAIRS}
 use Rattle.marks.specs.declared.Mark.{Mark}
 use Rattle.marks.specs.declared.Mark.the-variants.{Vt, Rt, Bk, Op, Pv, Pc}
 use Rattle.runs.specs.Parsed.{Entry}
@@ -55,7 +56,7 @@ unfoldable pub In-turn : Part → List Entry → Type 0
 In-turn p [] = Unit {0}
 In-turn p (e ∷ es) = T (may p (e .mark)) × In-turn (next p (e .mark)) es
 
--- the numbers that a record can be refused with: the 257th Vt; a voter set; a block; a base; a vote; else out of turn
+-- the numbers that a record can be refused with: a Vt past PAIRS; a voter set; a block; a base; a vote; else out of turn
 abbrev pub Own : Part → Mark → ℕ → Type 0
 Own voters Vt n = n ≡ 1
 Own voters Rt n = (2 ≤ n) × (n ≤ 4)
@@ -76,8 +77,8 @@ Own votes Op n = n ≡ 18
 Own votes Pv n = (11 ≤ n) × (n ≤ 13)
 Own votes Pc n = (11 ≤ n) × (n ≤ 13)
 
--- arrays of 256, which the types say of pairs in code
+-- arrays of PAIRS, which the types say of pairs in code
 abbrev pub Paired : Journal → Type 0
-Paired (pairing p) = (length (p .ids) ≡ 256) × (length (p .weights) ≡ 256) × (p .count ≤ 256)
+Paired (pairing p) = (length (p .ids) ≡ PAIRS) × (length (p .weights) ≡ PAIRS) × (p .count ≤ PAIRS)
 Paired (growing v t) = Unit {0}
 Paired (voting r) = Unit {0}

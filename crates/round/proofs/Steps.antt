@@ -8,6 +8,7 @@ use native.Mathlib.Omega.{arith}
 use lib.Dec.{T, eqb, leb, ltb, eqb→eq}
 use lib.ListN.{length}
 use borrow.Author.Tests.{eq-eqb}
+use Rattle.sizes.specs.Sizes.{VOTERS, VOTES, HISTORY, BLOCKS}
 use Rattle.loops.proofs.Tests.{T-true, true-T, left-of, right-of}
 use Rattle.grandpa.specs.Tree.{below}
 use Rattle.voter_set.specs.Good.{Good, good}
@@ -18,69 +19,64 @@ use Rattle.context.specs.declared.Phase.the-variants.{Prevote, Precommit}
 use Rattle.nodes.specs.declared.Found.{Found}
 use Rattle.nodes.specs.declared.Found.the-variants.{At, Nothing}
 use Rattle.nodes.specs.Nodes.{col, row, Falls}
-use Rattle.nodes.specs.Columns.{Columns, Sound}
 use Rattle.graph_rows.specs.declared.Row.{Row}
 use Rattle.graph_rows.specs.Rows.{words-of, rows-of}
-use Rattle.vote_graph.specs.Shape.{columns, is-graph}
+use Rattle.vote_graph.specs.Shape.{lent, columns, is-graph}
 use Rattle.vote_graph.proofs.Shapes.{Kept, is-graph-means}
 use Rattle.vote_graph.proofs.Standings.{gate-falls}
+use Rattle.entry_lists.specs.Entries.{Fit}
 use Rattle.tracker.specs.declared.Pair.{Pair}
 use Rattle.vote_shape.specs.Voted.{voted}
-use Rattle.vote_shape_laws.specs.Recorded.{Wide, Beside, Recorded}
+use Rattle.vote_shape_laws.specs.Recorded.{Recorded}
 use Rattle.vote_shape_laws.proofs.Means.{voted-means}
 use Rattle.vote_shape_laws.proofs.Keeps.{written-room}
+use Rattle.vote_shape_laws.proofs.Histories.{written-fit}
 use Rattle.answers.specs.Update.{Scene, In-base, Grounded, phase-ghost}
 use Rattle.answer_shape.specs.Stored.{stored, all-stored, weighed}
 use Rattle.judging.specs.declared.Verdict.{Verdict}
 use Rattle.judging.specs.declared.Verdict.the-variants as verdicts
-use Rattle.importing.specs.Import.{Frame, Held, Taken, Ready, scene, verdict, apply, import}
+use Rattle.importing.specs.Import.{Frame, Held, Lengths, Taken, Ready, scene, verdict, apply, import}
 use Rattle.importing.proofs.Turns.{first-grounded}
 use Rattle.round.specs.declared.Round.{Round}
 use Rattle.round.specs.declared.Imported.{Imported}
-use Rattle.round.specs.Shape.{frame, held, sized, index-fits, tells-votes, shaped}
-use Rattle.round.specs.Calls.{imported, sought}
-
--- the lengths that types say
-pub record Sizes (r : Round) : Type 0 where
-  pub wide : Wide (r .votes)
-  pub entries-size : length (r .history .entries) ≡ 256
-  pub words : length (r .context .equivocations) ≡ 2
+use Rattle.round.specs.Shape.{frame, held-lent, held, sized, index-fits, tells-votes, shaped}
+use Rattle.round.specs.Calls.{made, imported, sought}
 
 module _ (r : Round) where
-  pub says-sized : Sizes r → sized (held r) ≡ true
+  pub says-sized : Lengths (held r) → sized (held r) ≡ true
   unfolding sized
   says-sized s =
       rw (
-        eq-eqb _ 128 (s .wide .times-size),
-        eq-eqb _ 128 (s .wide .places-size),
-        eq-eqb _ 128 (s .wide .signatures-size),
-        eq-eqb _ 128 (s .wide .targets-size),
-        eq-eqb _ 128 (s .wide .numbers-size),
-        eq-eqb _ 128 (s .wide .seconds-size),
-        eq-eqb _ 256 (s .entries-size),
+        eq-eqb _ VOTES (s .wide .counts-size),
+        eq-eqb _ VOTES (s .wide .first-block-size),
+        eq-eqb _ VOTES (s .wide .first-signature-size),
+        eq-eqb _ VOTES (s .wide .second-target-size),
+        eq-eqb _ VOTES (s .wide .second-number-size),
+        eq-eqb _ VOTES (s .wide .second-signature-size),
+        eq-eqb _ HISTORY (s .entries-size),
         eq-eqb _ 2 (s .words),
       )
 
-  pub sized-says : T (sized (held r)) → Sizes r
+  pub sized-says : T (sized (held r)) → Lengths (held r)
   unfolding sized
   sized-says t =
-      let a = right-of (eqb (length (r .votes .times)) 128) _ t in
-      let b = right-of (eqb (length (r .votes .places)) 128) _ a in
-      let c = right-of (eqb (length (r .votes .signatures)) 128) _ b in
-      let d = right-of (eqb (length (r .votes .targets)) 128) _ c in
-      let e = right-of (eqb (length (r .votes .numbers)) 128) _ d in
-      let f = right-of (eqb (length (r .votes .seconds)) 128) _ e in
+      let a = right-of (eqb (length (r .votes .counts)) VOTES) _ t in
+      let b = right-of (eqb (length (r .votes .«first_block»)) VOTES) _ a in
+      let c = right-of (eqb (length (r .votes .«first_signature»)) VOTES) _ b in
+      let d = right-of (eqb (length (r .votes .«second_target»)) VOTES) _ c in
+      let e = right-of (eqb (length (r .votes .«second_number»)) VOTES) _ d in
+      let f = right-of (eqb (length (r .votes .«second_signature»)) VOTES) _ e in
       record {
         wide = record {
-          times-size = eqb→eq _ _ (left-of (eqb (length (r .votes .times)) 128) _ t);
-          places-size = eqb→eq _ _ (left-of (eqb (length (r .votes .places)) 128) _ a);
-          signatures-size = eqb→eq _ _ (left-of (eqb (length (r .votes .signatures)) 128) _ b);
-          targets-size = eqb→eq _ _ (left-of (eqb (length (r .votes .targets)) 128) _ c);
-          numbers-size = eqb→eq _ _ (left-of (eqb (length (r .votes .numbers)) 128) _ d);
-          seconds-size = eqb→eq _ _ (left-of (eqb (length (r .votes .seconds)) 128) _ e);
+          counts-size = eqb→eq _ _ (left-of (eqb (length (r .votes .counts)) VOTES) _ t);
+          first-block-size = eqb→eq _ _ (left-of (eqb (length (r .votes .«first_block»)) VOTES) _ a);
+          first-signature-size = eqb→eq _ _ (left-of (eqb (length (r .votes .«first_signature»)) VOTES) _ b);
+          second-target-size = eqb→eq _ _ (left-of (eqb (length (r .votes .«second_target»)) VOTES) _ c);
+          second-number-size = eqb→eq _ _ (left-of (eqb (length (r .votes .«second_number»)) VOTES) _ d);
+          second-signature-size = eqb→eq _ _ (left-of (eqb (length (r .votes .«second_signature»)) VOTES) _ e);
         };
-        entries-size = eqb→eq _ _ (left-of (eqb (length (r .history .entries)) 256) _ f);
-        words = eqb→eq _ _ (right-of (eqb (length (r .history .entries)) 256) _ f);
+        entries-size = eqb→eq _ _ (left-of (eqb (length (r .history .entries)) HISTORY) _ f);
+        words = eqb→eq _ _ (right-of (eqb (length (r .history .entries)) HISTORY) _ f);
       }
 
   -- the test by its parts
@@ -125,7 +121,7 @@ module _ (r : Round) where
     pub graph-kept : Kept (r .graph) (r .table)
     graph-kept = is-graph-means (r .graph) (r .table) (passed .0)
 
-    pub few-blocks : r .table .count ≤ 256
+    pub few-blocks : r .table .count ≤ BLOCKS
     few-blocks = graph-kept .table .few
 
     recorded : Recorded (r .context .voters .count) (r .table .parents) (r .graph .base) (r .graph .used) (words-of (r .graph .rows)) (r .votes)
@@ -133,13 +129,7 @@ module _ (r : Round) where
     unfolding tells-votes
     recorded =
         let s = sized-says (passed .2) in
-        voted-means _ _ _ _ _ _ _ _ _ (s .wide)
-        (record {
-          used-size = graph-kept .sound .used-size;
-          row-size = graph-kept .sound .row-size;
-          words = s .words;
-          entries-size = s .entries-size;
-        })
+        voted-means _ _ _ _ _ _ _ _ _ (s .wide) (graph-kept .sound .sized .used-size) (graph-kept .sound .sized .row-size) (s .words) (s .entries-size)
         (true-T _ (passed .3))
 
     stored-in : (o : Found) → T (stored (r .table .parents) (r .table .count) (r .graph .base) o) → In-base (r .table .parents) (r .graph .base) o
@@ -164,48 +154,27 @@ module _ (r : Round) where
           apart = λ x y h k d e.
               d (graph-kept .table .distinct (col (r .table .ids) y) x y (record { inside = h; named = e }) (record { inside = k; named = refl }));
           stored = prevote-in;
-          room = λ j h l. written-room (r .votes) (sized-says (passed .2) .wide .times-size) (r .history .entries) (r .history .count) (recorded .history) j h l;
+          room = λ j h l. written-room (r .votes) (sized-says (passed .2) .wide .counts-size) (r .history .entries) (r .history .count) (recorded .history) j h l;
         }
 
     pub parents-fall : Falls (r .table .parents)
     parents-fall = gate-falls (r .graph) (r .table) (true-T _ (passed .0))
 
-    pub few-voters : r .context .voters .count ≤ 64
+    pub few-voters : r .context .voters .count ≤ VOTERS
     few-voters = good-means (r .context .voters) (true-T _ (passed .1)) .few
 
-    pub few-votes : r .history .count ≤ 256
+    -- history has entries of history
+    pub fit-votes : Fit (r .history .entries) (r .history .count)
+    fit-votes = written-fit (r .votes) (sized-says (passed .2) .wide .counts-size) (r .history .entries) (r .history .count) (recorded .history)
+
+    pub few-votes : r .history .count ≤ HISTORY
     few-votes = recorded .history .fits
-
--- columns as they are lent, with the words of the rows beside
-abbrev pub lent : Round → List (List ℕ) → Columns
-lent r w =
-    record {
-      used = r .graph .used;
-      above = r .graph .above;
-      rows = w;
-      order = r .graph .order;
-      listed = r .graph .listed;
-      heads = r .graph .heads;
-      tips = r .graph .tips;
-    }
-
-abbrev pub held-lent : Round → List (List ℕ) → Held
-held-lent r w =
-    record {
-      graph = lent r w;
-      votes = r .votes;
-      entries = r .history .entries;
-      count = r .history .count;
-      equivocations = r .context .equivocations;
-      heard = r .heard;
-      answers = r .answers;
-    }
 
 module _ (r : Round) (t : T (shaped r)) (w : List (List ℕ)) (e : w ≡ words-of (r .graph .rows)) where
   pub lent-ready : Ready (frame r) (held-lent r w)
   lent-ready = rw e (shaped-ready r t)
 
-  pub lent-grounded : Grounded (r .table .parents) (r .graph .base) (lent r w)
+  pub lent-grounded : Grounded (r .table .parents) (r .graph .base) (lent (r .graph) w)
   lent-grounded = rw e (record { ids = r .table .ids; count = r .table .count; sound = graph-kept r t .sound })
 
   pub import-done : (phase : Phase) (signer : ℕ) (p : Pair) (x : Taken) → x ≡ import (frame r) phase signer p (held-lent r w)
@@ -213,30 +182,7 @@ module _ (r : Round) (t : T (shaped r)) (w : List (List ℕ)) (e : w ≡ words-o
       → _≡_ {A = Imported}
       (record {
         answer = x .answer;
-        round = record {
-          number = r .number;
-          context = record { voters = r .context .voters; equivocations = x .held .equivocations };
-          table = r .table;
-          graph = record {
-            base = r .graph .base;
-            used = x .held .graph .used;
-            above = x .held .graph .above;
-            rows = rows;
-            order = x .held .graph .order;
-            listed = x .held .graph .listed;
-            heads = x .held .graph .heads;
-            tips = x .held .graph .tips;
-          };
-          votes = x .held .votes;
-          history = record {
-            entries = x .held .entries;
-            count = x .held .count;
-            prevoted = r .history .prevoted;
-            precommitted = r .history .precommitted;
-          };
-          heard = x .held .heard;
-          answers = x .held .answers;
-        };
+        round = made (frame r) (x .held) rows (r .history .prevoted) (r .history .precommitted);
       })
       (imported phase signer p r)
   unfolding imported
@@ -249,11 +195,11 @@ module _ (r : Round) (t : T (shaped r)) (w : List (List ℕ)) (e : w ≡ words-o
 
 -- the rows keep their size over a vote
 pub import-sized : (f : Frame) (h : Held) → Ready f h → (phase : Phase) (signer : ℕ) (p : Pair)
-    → length (import f phase signer p h .held .graph .rows) ≡ 256
+    → length (import f phase signer p h .held .graph .rows) ≡ BLOCKS
 unfolding import
 import-sized f h ready phase signer p = go (verdict f phase signer p h) refl
   where
-    go : (x : Verdict) → verdict f phase signer p h ≡ x → length (apply f phase signer p h x .held .graph .rows) ≡ 256
-    go (verdicts.Nothing a) e = ready .sound .rows-size
-    go (verdicts.First v b) e = first-grounded f h ready phase signer p v b e _ _ refl .sound .rows-size
-    go (verdicts.Second v a) e = ready .sound .rows-size
+    go : (x : Verdict) → verdict f phase signer p h ≡ x → length (apply f phase signer p h x .held .graph .rows) ≡ BLOCKS
+    go (verdicts.Nothing a) e = ready .sound .sized .rows-size
+    go (verdicts.First v b) e = first-grounded f h ready phase signer p v b e _ _ refl .sound .sized .rows-size
+    go (verdicts.Second v a) e = ready .sound .sized .rows-size

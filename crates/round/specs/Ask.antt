@@ -1,7 +1,7 @@
 -- The calls that only read a round. Document 01, "Refusal numbers": 9 first where a state is taken, also where it is only read.
 use mathlib.Core.Bool.{cond}
 use mathlib.Core.List.{List}
-use Prim.Native.Nat.{ℕ, _*_}
+use Prim.Native.Nat.{ℕ}
 use Rattle.loops.specs.Listing.{front, keep}
 use Rattle.voter_set.specs.declared.VoterSet.{VoterSet}
 use Rattle.blocks.specs.declared.BlockTable.{BlockTable}
@@ -9,7 +9,7 @@ use Rattle.tracker.specs.declared.Votes.{Votes}
 use Rattle.listing.specs.declared.Wanted.{Wanted}
 use Rattle.listing.specs.declared.Wanted.the-variants as wanted
 use Rattle.listing.specs.declared.Written.the-variants as answer
-use Rattle.listing.specs.Entries.{counting, wants}
+use Rattle.listing.specs.Entries.{by-voter, phase-in, wants}
 use Rattle.listing.specs.Written.{Lent, record-of, written}
 use Rattle.voter_set.specs.declared.Nth.{Nth}
 use Rattle.voter_set.specs.declared.Nth.the-variants as nth
@@ -123,7 +123,7 @@ records es voters table v out = written (record-of v (voters .ids) (table .ids) 
 
 -- the wanted votes by rising voter
 unfoldable pub entries-of : Wanted → Round → List ℕ
-entries-of w r = keep (wants (r .votes .times) (r .votes .places) (r .table .parents) w) (counting (4 * r .context .voters .count))
+entries-of w r = keep (wants (r .votes .counts) (r .votes .«first_block») (r .table .parents) w) (by-voter (phase-in w) (r .context .voters .count))
 
 unfoldable pub listed : Wanted → Round → List ℕ → Lent
 listed w r out = records (entries-of w r) (r .context .voters) (r .table) (r .votes) out

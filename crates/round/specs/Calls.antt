@@ -1,9 +1,10 @@
 -- The calls on a round. Document 01, "How a vote is taken", "The four answers", "Refusal numbers": 9 first where a state is taken; a
 -- refusal hands the round back equal.
-use mathlib.Core.Bool.{Bool, false, cond}
-use mathlib.Core.List.{List, [], _∷_}
+use mathlib.Core.Bool.{cond}
+use mathlib.Core.List.{List}
 use Prim.Native.Nat.{ℕ}
 use lib.ListN.{replicate}
+use Rattle.sizes.specs.Sizes.{VOTERS, BLOCKS}
 use Rattle.voter_set.specs.declared.VoterSet.{VoterSet}
 use Rattle.voter_set.specs.Good.{good}
 use Rattle.blocks.specs.declared.BlockTable.{BlockTable}
@@ -16,15 +17,15 @@ use Rattle.context.specs.declared.Phase.the-variants.{Prevote, Precommit}
 use Rattle.nodes.specs.declared.Found.{Found}
 use Rattle.nodes.specs.declared.Found.the-variants as found
 use Rattle.nodes.specs.Nodes.{col}
-use Rattle.vote_insert.specs.Insert as graph
-use Rattle.vote_graph.specs.Shape.{graph-of}
-use Rattle.tracker.specs.declared.Votes.{Votes}
+use Rattle.graph_rows.specs.declared.Row.{Row}
+use Rattle.graph_rows.specs.Rows.{rows-of}
+use Rattle.vote_graph.specs.Shape.{graph-with}
 use Rattle.tracker.specs.declared.Pair.{Pair}
 use Rattle.judging.specs.declared.ImportResult.the-variants as result
 use Rattle.answers.specs.declared.Answers.{Answers}
-use Rattle.answers.specs.declared.Heard.{Heard}
-use Rattle.answers.specs.Update.{Scene, phase-ghost, with-precommit}
-use Rattle.importing.specs.Import.{Held, Taken, scene, import}
+use Rattle.answers.specs.Update.{phase-ghost, with-precommit}
+use Rattle.importing.specs.Import.{Frame, framed, Held, opened-held, Taken, scene, import}
+use Rattle.round.specs.declared.Index.{Index}
 use Rattle.round.specs.declared.Index.the-variants as index
 use Rattle.round.specs.declared.History.{History}
 use Rattle.round.specs.declared.Round.{Round}
@@ -38,44 +39,31 @@ use Rattle.round.specs.declared.Told.the-variants as told
 use Rattle.round.specs.declared.Asked.{Asked}
 use Rattle.round.specs.Shape.{frame, held, shaped}
 
--- a round with no votes
-abbrev pub no-votes : Votes
-no-votes =
+-- a round of its frame, what is held, the rows of its graph and the two indices
+abbrev pub made : Frame → Held → List Row → Index → Index → Round
+made f h rows prevoted precommitted =
     record {
-      times = replicate 128 0;
-      places = replicate 128 0;
-      signatures = replicate 128 0;
-      targets = replicate 128 0;
-      numbers = replicate 128 0;
-      seconds = replicate 128 0;
+      number = f .number;
+      context = record { voters = f .voters; equivocations = h .equivocations };
+      table = f .table;
+      graph = graph-with (f .base) (h .graph) rows;
+      votes = h .votes;
+      history = record { entries = h .entries; count = h .count; prevoted = prevoted; precommitted = precommitted };
+      heard = h .heard;
+      answers = h .answers;
     }
 
-abbrev pub no-answers : Answers
-no-answers =
-    record { prevote = found.Nothing; precommit = found.Nothing; finalized = found.Nothing; estimate = found.Nothing; completable = false }
-
-abbrev pub no-history : History
-no-history = record { entries = replicate 256 0; count = 0; prevoted = index.Nothing; precommitted = index.Nothing }
-
+-- a round with no votes
 unfoldable pub opened : ℕ → VoterSet → BlockTable → ℕ → Round
 opened number voters table base =
-    record {
-      number = number;
-      context = record { voters = voters; equivocations = replicate 2 0 };
-      table = table;
-      graph = graph-of base (graph.opened base);
-      votes = no-votes;
-      history = no-history;
-      heard = record { prevote = 0; precommit = 0 };
-      answers = no-answers;
-    }
+    made (framed number voters table base) (opened-held base) (rows-of (opened-held base .graph .rows)) index.Nothing index.Nothing
 
 -- beside a refusal: no voters and no blocks
 abbrev pub nobody : VoterSet
-nobody = record { ids = replicate 64 0; weights = replicate 64 0; count = 0; threshold = 0; total = 0 }
+nobody = record { ids = replicate VOTERS 0; weights = replicate VOTERS 0; count = 0; threshold = 0; total = 0 }
 
 abbrev pub no-blocks : BlockTable
-no-blocks = record { ids = replicate 256 0; numbers = replicate 256 0; parents = replicate 256 0; count = 0 }
+no-blocks = record { ids = replicate BLOCKS 0; numbers = replicate BLOCKS 0; parents = replicate BLOCKS 0; count = 0 }
 
 abbrev pub not-opened : ℕ → Kept
 not-opened n = record { answer = done.Refused n; round = opened 0 nobody no-blocks 0 }
@@ -110,22 +98,7 @@ unfoldable pub add-block : ℕ → ℕ → Round → Grown
 add-block id parent r = cond (shaped r) (grown r (step (r .table) id parent)) (record { answer = answer.Refused 9; round = r })
 
 abbrev pub with-held : Round → Held → Round
-with-held r h =
-    record {
-      number = r .number;
-      context = record { voters = r .context .voters; equivocations = h .equivocations };
-      table = r .table;
-      graph = graph-of (r .graph .base) (h .graph);
-      votes = h .votes;
-      history = record {
-        entries = h .entries;
-        count = h .count;
-        prevoted = r .history .prevoted;
-        precommitted = r .history .precommitted;
-      };
-      heard = h .heard;
-      answers = h .answers;
-    }
+with-held r h = made (frame r) h (rows-of (h .graph .rows)) (r .history .prevoted) (r .history .precommitted)
 
 abbrev pub as-imported : Round → Taken → Imported
 as-imported r t = record { answer = t .answer; round = with-held r (t .held) }

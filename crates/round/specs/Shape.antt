@@ -1,48 +1,59 @@
 -- A round by value and its shape. Document 01, "Shape rules", and no others; "Refusal numbers" 9. The stored four answers are not
 -- tested against the votes.
 use mathlib.Core.Bool.{Bool, true, _&&_}
+use mathlib.Core.List.{List}
 use Prim.Native.Nat.{ℕ}
 use lib.Dec.{eqb, leb}
 use lib.ListN.{length}
+use Rattle.sizes.specs.Sizes.{WORDS, VOTES, HISTORY}
 use Rattle.voter_set.specs.Good.{good}
 use Rattle.nodes.specs.Nodes.{row}
-use Rattle.vote_graph.specs.Shape.{columns, is-graph}
+use Rattle.graph_rows.specs.Rows.{words-of}
+use Rattle.vote_graph.specs.Shape.{lent, columns, is-graph}
 use Rattle.vote_shape.specs.Voted.{voted}
 use Rattle.answer_shape.specs.Stored.{all-stored, weighed}
-use Rattle.importing.specs.Import.{Frame, Held}
+use Rattle.importing.specs.declared.Standing.{Standing}
+use Rattle.importing.specs.Import.{Frame, framed, Held, held-with}
 use Rattle.round.specs.declared.Index.{Index}
 use Rattle.round.specs.declared.Index.the-variants.{At, Nothing}
 use Rattle.round.specs.declared.Round.{Round}
 
 -- what no vote changes, and what a vote may change
 abbrev pub frame : Round → Frame
-frame r = record { number = r .number; voters = r .context .voters; table = r .table; base = r .graph .base }
+frame r = framed (r .number) (r .context .voters) (r .table) (r .graph .base)
 
-abbrev pub held : Round → Held
-held r =
+-- beside its columns, as code keeps it
+abbrev pub standing : Round → Standing
+standing r =
     record {
-      graph = columns (r .graph);
-      votes = r .votes;
-      entries = r .history .entries;
+      listed = r .graph .listed;
+      tips = r .graph .tips;
       count = r .history .count;
       equivocations = r .context .equivocations;
       heard = r .heard;
       answers = r .answers;
     }
 
+-- with words beside the round, as code lends it; with the words of its rows
+abbrev pub held-lent : Round → List (List ℕ) → Held
+held-lent r w = held-with (lent (r .graph) w) (r .votes) (r .history .entries) (standing r)
+
+abbrev pub held : Round → Held
+held r = held-lent r (words-of (r .graph .rows))
+
 -- arrays of their sizes, which the types say of a round in code
 unfoldable pub sized : Held → Bool
 sized h =
-    eqb (length (h .votes .times)) 128
-    && (eqb (length (h .votes .places)) 128
-    && (eqb (length (h .votes .signatures)) 128
-    && (eqb (length (h .votes .targets)) 128
-    && (eqb (length (h .votes .numbers)) 128
-    && (eqb (length (h .votes .seconds)) 128 && (eqb (length (h .entries)) 256 && eqb (length (h .equivocations)) 2))))))
+    eqb (length (h .votes .counts)) VOTES
+    && (eqb (length (h .votes .«first_block»)) VOTES
+    && (eqb (length (h .votes .«first_signature»)) VOTES
+    && (eqb (length (h .votes .«second_target»)) VOTES
+    && (eqb (length (h .votes .«second_number»)) VOTES
+    && (eqb (length (h .votes .«second_signature»)) VOTES && (eqb (length (h .entries)) HISTORY && eqb (length (h .equivocations)) WORDS))))))
 
--- counts within sizes: history has at most 256 entries
+-- counts within sizes: history has at most HISTORY entries
 abbrev pub index-fits : Index → Bool
-index-fits (At n) = leb n 256
+index-fits (At n) = leb n HISTORY
 index-fits Nothing = true
 
 -- the recorded votes, and what is kept beside them, as document 01 lists it

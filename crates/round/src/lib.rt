@@ -4,15 +4,17 @@ ghost use mathlib.Core.Path.{_≡_};
 ghost use lib.Dec.{T};
 ghost use lib.ListN.{length};
 ghost use Prim.Native.Nat.{_≤_};
+ghost use Rattle.sizes.specs.Sizes.{WORDS, HISTORY};
 ghost use Rattle.loops.specs.Listing.{front};
+ghost use Rattle.entry_lists.specs.Entries.{Fit};
 ghost use Rattle.listing.specs.Written.{Lent};
 ghost use Rattle.nodes.specs.Nodes.{Falls};
 ghost use Rattle.vote_shape.specs.Voted.{voted};
-ghost use Rattle.vote_shape_laws.specs.Recorded.{Wide};
+ghost use Rattle.tracker.specs.Votes.{Wide};
 ghost use Rattle.context.specs.declared.Phase.the-variants.{Prevote, Precommit};
 ghost use Rattle.round.specs.Shape.{index-fits, shaped};
 ghost use Rattle.round.specs.Ask.{records, listed, votes-of, historical-votes, finalizing-precommits, primary-of, heard-in, prevote-participation, precommit-participation, primary-voter, state, voters, index-number, number, threshold, prevoted-index, precommitted-index, completable, estimate, finalized, base};
-ghost use Rattle.round.specs.Calls.{no-votes, no-answers, opened, nobody, no-blocks, new, add-block, imported, import-vote, sought, with-sought, precommit-ghost, marked, set-index, block-of};
+ghost use Rattle.round.specs.Calls.{opened, nobody, no-blocks, new, add-block, imported, import-vote, sought, with-sought, precommit-ghost, marked, set-index, block-of};
 use answers::Answers;
 use answers::Heard;
 use blocks::Answer;
@@ -25,6 +27,10 @@ use judging::ImportResult;
 use listing::Wanted;
 use listing::Written;
 use nodes::Found;
+use sizes::BLOCKS;
+use sizes::HISTORY;
+use sizes::VOTERS;
+use sizes::WORDS;
 use tracker::Pair;
 use tracker::Votes;
 use vote_graph::VoteGraph;
@@ -38,9 +44,9 @@ pub enum Index {
     Nothing,
 }
 
-// `HistoricalVotes`: recorded votes in arrival order, one byte each: entry 2i is the first pair at index i, 2i + 1 the second.
+// `HistoricalVotes`: recorded votes in arrival order, as entries.
 pub struct History {
-    pub entries: [u8; 256],
+    pub entries: [u16; HISTORY],
     pub count: usize,
     pub prevoted: Index,
     pub precommitted: Index,
@@ -135,57 +141,30 @@ pub struct Voters {
     pub voters: VoterSet,
 }
 
-fn no_answers() -> Answers
-    ensures { λ r. ⌜ r ≡ no-answers ⌝ }
-{
-    Answers {
-        prevote: Found::Nothing,
-        precommit: Found::Nothing,
-        finalized: Found::Nothing,
-        estimate: Found::Nothing,
-        completable: false,
-    }
-}
-
-fn no_votes() -> Votes
-    ensures { λ r. ⌜ r ≡ no-votes ⌝ }
-{
-    Votes {
-        times: [0u8; 128],
-        places: [0u8; 128],
-        signatures: [0u64; 128],
-        targets: [0u32; 128],
-        numbers: [0u32; 128],
-        seconds: [0u64; 128],
-    }
-}
-
 pub fn opened(number: u64, voters: VoterSet, table: BlockTable, base: u8) -> Round
     ensures { λ r. ⌜ r ≡ opened number voters table base ⌝ }
 {
     let graph = VoteGraph::new(base);
-    let votes = no_votes();
-    let answers = no_answers();
+    let votes = tracker::no_votes();
+    let stored = answers::no_answers();
+    let heard = answers::no_heard();
     Round {
         number,
         context: Context {
             voters,
-            equivocations: [0u64; 2],
+            equivocations: [0u64; WORDS],
         },
         table,
         graph,
         votes,
         history: History {
-            entries: [0u8; 256],
+            entries: [0u16; HISTORY],
             count: 0,
             prevoted: Index::Nothing,
             precommitted: Index::Nothing,
         },
-        heard: Heard {
-            prevote: 0,
-            precommit: 0,
-        },
-        answers,
+        heard,
+        answers: stored,
     }
 }
 
@@ -193,8 +172,8 @@ pub fn nobody() -> VoterSet
     ensures { λ r. ⌜ r ≡ nobody ⌝ }
 {
     VoterSet {
-        ids: [0u32; 64],
-        weights: [0u64; 64],
+        ids: [0u32; VOTERS],
+        weights: [0u64; VOTERS],
         count: 0,
         threshold: 0,
         total: 0,
@@ -205,9 +184,9 @@ pub fn no_blocks() -> BlockTable
     ensures { λ r. ⌜ r ≡ no-blocks ⌝ }
 {
     BlockTable {
-        ids: [0u32; 256],
-        numbers: [0u32; 256],
-        parents: [0u8; 256],
+        ids: [0u32; BLOCKS],
+        numbers: [0u32; BLOCKS],
+        parents: [0u8; BLOCKS],
         count: 0,
     }
 }
@@ -215,16 +194,16 @@ pub fn no_blocks() -> BlockTable
 // Whether nodes, equivocators and history tell the recorded votes. The arrays' lengths are known of a parameter.
 fn are_told<'a>(
     size: usize,
-    parents: &'a [u8; 256],
+    parents: &'a [u8; BLOCKS],
     base: u8,
-    used: &'a [bool; 256],
-    words: &'a [[u64; 2]; 256],
+    used: &'a [bool; BLOCKS],
+    words: &'a [[u64; WORDS]; BLOCKS],
     votes: Votes,
-    equivocations: [u64; 2],
+    equivocations: [u64; WORDS],
     history: History,
 ) -> bool
     requires { ⌜ Falls (now parents) ⌝ }
-    ensures { λ r. ⌜ (r ≡ voted size (now (parents .entry)) base (now (used .entry)) (now (words .entry)) votes equivocations (history .entries) (history .count)) × (Wide votes) × (length (history .entries) ≡ 256) × (length equivocations ≡ 2) ⌝ }
+    ensures { λ r. ⌜ (r ≡ voted size (now (parents .entry)) base (now (used .entry)) (now (words .entry)) votes equivocations (history .entries) (history .count)) × (Wide votes) × (length (history .entries) ≡ HISTORY) × (length equivocations ≡ WORDS) ⌝ }
 {
     vote_shape::is_voted(
         size,
@@ -232,12 +211,12 @@ fn are_told<'a>(
         base,
         used,
         words,
-        &votes.times,
-        &votes.places,
-        &votes.signatures,
-        &votes.targets,
-        &votes.numbers,
-        &votes.seconds,
+        &votes.counts,
+        &votes.first_block,
+        &votes.first_signature,
+        &votes.second_target,
+        &votes.second_number,
+        &votes.second_signature,
         equivocations,
         &history.entries,
         history.count,
@@ -248,12 +227,12 @@ fn index_fits(index: Index) -> bool
     ensures { λ r. ⌜ r ≡ index-fits index ⌝ }
 {
     match index {
-        Index::At(seen) => seen <= 256,
+        Index::At(seen) => seen <= HISTORY as u64,
         Index::Nothing => true,
     }
 }
 
-pub fn block_of<'a>(ids: &'a [u32; 256], numbers: &'a [u32; 256], found: Found) -> Told
+pub fn block_of<'a>(ids: &'a [u32; BLOCKS], numbers: &'a [u32; BLOCKS], found: Found) -> Told
     ensures { λ r. ⌜ r ≡ block-of (now (ids .entry)) (now (numbers .entry)) found ⌝ }
 {
     match found {
@@ -295,25 +274,25 @@ pub fn heard_in(graph: VoteGraph, phase: Phase) -> u32
 
 // Records of recorded votes from the start of what is lent: those of a list of entries.
 fn records(
-    entries: [u8; 256],
+    entries: [u16; HISTORY],
     count: usize,
     voters: VoterSet,
     table: BlockTable,
     votes: Votes,
     out: &mut [u8],
 ) -> Written
-    requires { ⌜ count ≤ 256 ⌝ }
+    requires { ⌜ (count ≤ HISTORY) × Fit entries count ⌝ }
     ensures { λ r. ⌜ _≡_ {A = Lent} (record { answer = r; bytes = now (out .exit) }) (records (front count entries) voters table votes (now (out .entry))) ⌝ }
 {
     listing::write(
         &entries,
         count,
-        &votes.times,
-        &votes.places,
-        &votes.signatures,
-        &votes.targets,
-        &votes.numbers,
-        &votes.seconds,
+        &votes.counts,
+        &votes.first_block,
+        &votes.first_signature,
+        &votes.second_target,
+        &votes.second_number,
+        &votes.second_signature,
         &voters.ids,
         &table.ids,
         &table.numbers,
@@ -474,12 +453,12 @@ impl Round {
         let mut words = graph_rows::words_of(rows);
         let mut order = graph.order;
         let mut heads = graph.heads;
-        let mut times = votes.times;
-        let mut places = votes.places;
-        let mut signatures = votes.signatures;
-        let mut targets = votes.targets;
-        let mut numbers = votes.numbers;
-        let mut seconds = votes.seconds;
+        let mut counts = votes.counts;
+        let mut first_block = votes.first_block;
+        let mut first_signature = votes.first_signature;
+        let mut second_target = votes.second_target;
+        let mut second_number = votes.second_number;
+        let mut second_signature = votes.second_signature;
         let mut entries = history.entries;
         let equivocations = context.equivocations;
         let heard = self.heard;
@@ -509,12 +488,12 @@ impl Round {
             &mut words,
             &mut order,
             &mut heads,
-            &mut times,
-            &mut places,
-            &mut signatures,
-            &mut targets,
-            &mut numbers,
-            &mut seconds,
+            &mut counts,
+            &mut first_block,
+            &mut first_signature,
+            &mut second_target,
+            &mut second_number,
+            &mut second_signature,
             &mut entries,
             standing,
             phase,
@@ -547,12 +526,12 @@ impl Round {
         };
         self.graph = graph_after;
         let votes_after = Votes {
-            times,
-            places,
-            signatures,
-            targets,
-            numbers,
-            seconds,
+            counts,
+            first_block,
+            first_signature,
+            second_target,
+            second_number,
+            second_signature,
         };
         self.votes = votes_after;
         let history_after = History {
@@ -872,13 +851,13 @@ impl Round {
         let table = self.table;
         let votes = self.votes;
         let list = listing::entries_of(
-            &votes.times,
-            &votes.places,
+            &votes.counts,
+            &votes.first_block,
             &table.parents,
             voters.count,
             wanted,
         );
-        let entries = list.places;
+        let entries = list.entries;
         records(entries, list.count, voters, table, votes, out)
     }
 

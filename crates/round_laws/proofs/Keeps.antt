@@ -1,10 +1,11 @@
 -- Every call on a round that keeps the shape gives a round that keeps it.
 use mathlib.Core.Bool.{Bool, true, false, cond}
-use mathlib.Core.Path.{_≡_, refl, sym, subst}
+use mathlib.Core.Path.{_≡_, refl, sym, ap, subst}
 use Prim.Native.Nat.{ℕ, _≤_}
 use native.Mathlib.Omega.{arith}
 use lib.Dec.{T, leb}
 use borrow.Author.Tests.{le-leb}
+use Rattle.sizes.specs.Sizes.{HISTORY}
 use Rattle.loops.proofs.Tests.{T-true}
 use Rattle.weights.specs.Weights.{most}
 use Rattle.voter_set.specs.declared.VoterSet.{VoterSet}
@@ -20,12 +21,11 @@ use Rattle.block_shape.proofs.Shapes.{tabled-shaped}
 use Rattle.block_laws.proofs.Adds.{found-stands}
 use Rattle.context.specs.declared.Phase.{Phase}
 use Rattle.context.specs.declared.Phase.the-variants.{Prevote, Precommit}
-use Rattle.vote_insert.specs.Insert as graph
 use Rattle.vote_graph.proofs.Shapes.{columns-of}
 use Rattle.tracker.specs.declared.Pair.{Pair}
-use Rattle.importing.specs.Import.{Frame, Held, import}
+use Rattle.importing.specs.Import.{framed, Held, with-graph, import, opened-held}
 use Rattle.held_laws.specs.Kept.{Kept}
-use Rattle.held_laws.specs.Reached.{opened-held, Opens}
+use Rattle.held_laws.specs.Reached.{Opens}
 use Rattle.held_laws.proofs.Opens.{opened-kept}
 use Rattle.held_laws.proofs.Keeps.{import-keeps}
 use Rattle.held_laws.proofs.Adds.{adding-keeps, sought-keeps}
@@ -47,40 +47,19 @@ on-true P false x y t p = absurd t
 
 -- what is held is put into a round and read again
 pub held-again : (r : Round) (h : Held) → held (with-held r h) ≡ h
-held-again r h =
-    λ i. record {
-      graph = columns-of (r .graph .base) (h .graph) i;
-      votes = h .votes;
-      entries = h .entries;
-      count = h .count;
-      equivocations = h .equivocations;
-      heard = h .heard;
-      answers = h .answers;
-    }
+held-again r h = ap (with-graph h) (columns-of (r .graph .base) (h .graph))
 
 -- a round is opened
-abbrev pub opening : ℕ → VoterSet → BlockTable → ℕ → Frame
-opening number voters table base = record { number = number; voters = voters; table = table; base = base }
-
 module _ (number : ℕ) (voters : VoterSet) (table : BlockTable) where
   pub opened-again : (b : ℕ) → held (opened number voters table b) ≡ opened-held b
   unfolding opened
-  opened-again b =
-      λ i. record {
-        graph = columns-of b (graph.opened b) i;
-        votes = opened-held b .votes;
-        entries = opened-held b .entries;
-        count = 0;
-        equivocations = opened-held b .equivocations;
-        heard = opened-held b .heard;
-        answers = opened-held b .answers;
-      }
+  opened-again b = ap (with-graph (opened-held b)) (columns-of b (opened-held b .graph))
 
-  pub opened-shaped : (b : ℕ) → Opens (opening number voters table b) → T (shaped (opened number voters table b))
+  pub opened-shaped : (b : ℕ) → Opens (framed number voters table b) → T (shaped (opened number voters table b))
   unfolding opened
   opened-shaped b o =
       kept-shaped (opened number voters table b)
-      (subst (Kept (opening number voters table b)) (sym (opened-again b)) (opened-kept (opening number voters table b) o))
+      (subst (Kept (framed number voters table b)) (sym (opened-again b)) (opened-kept (framed number voters table b) o))
       (record { prevoted = tt; precommitted = tt })
 
   module _ (base : ℕ) where
@@ -104,7 +83,7 @@ module _ (number : ℕ) (voters : VoterSet) (table : BlockTable) where
         go false s b t p e q = absurd (let z : _≡_ {A = ℕ} 0 1 = cc in omega arith)
 
     module _ (fits : voters .total ≤ most) (answered : new number voters table base .answer ≡ done.Yes) where
-      pub new-opens : Opens (opening number voters table (new-opened answered .0))
+      pub new-opens : Opens (framed number voters table (new-opened answered .0))
       new-opens =
           let m = new-opened answered in
           record { good = good-means voters (m .1); fits = fits; table = tabled-shaped table (m .2); in-table = m .3 .inside }
@@ -149,8 +128,8 @@ module _ (r : Round) (fits : Fits r) (t : T (shaped r)) where
   index-shaped phase =
       on-true (λ (x : round.Kept). T (shaped (x .round))) (shaped r) _ _ t (go phase)
     where
-      few : T (leb (r .history .count) 256)
-      few = T-true (le-leb _ 256 (kept .recorded .history .fits))
+      few : T (leb (r .history .count) HISTORY)
+      few = T-true (le-leb _ HISTORY (kept .recorded .history .fits))
 
       go : (phase : Phase) → T (shaped (with-history r (marked phase (r .history))))
       go Prevote =

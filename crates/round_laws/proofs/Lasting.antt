@@ -8,15 +8,17 @@ use Rattle.grandpa.specs.Weight.{fault}
 use Rattle.grandpa.specs.Vote.{equivocators}
 use Rattle.grandpa.specs.Answers.{told}
 use Rattle.grandpa.specs.Time as time
+use Rattle.voter_set.specs.declared.VoterSet.{VoterSet}
 use Rattle.blocks.specs.Add.{step}
 use Rattle.context.specs.declared.Phase.{Phase}
 use Rattle.context.specs.declared.Phase.the-variants.{Prevote, Precommit}
 use Rattle.context.specs.Votes.{bit}
 use Rattle.nodes.specs.Nodes.{col}
 use Rattle.tracker.specs.declared.Pair.{Pair}
-use Rattle.importing.specs.Import.{Frame, Held, import}
+use Rattle.importing.specs.Import.{Frame, framed, with-table, Held, opened-held, import}
 use Rattle.held_laws.specs.Reached as state
-use Rattle.held_laws.specs.Reached.{opened-held, Comes, with-table}
+use Rattle.held_laws.specs.Reached.{Comes}
+use Rattle.held_laws.proofs.Reaches.{comes-voters, comes-framed}
 use Rattle.held_laws.proofs.Onward.{comes-grown, comes-later}
 use Rattle.held_laws.proofs.Answered.{reached-meant, reached-stays}
 use Rattle.round.specs.declared.Round.{Round}
@@ -30,76 +32,61 @@ use Rattle.round.specs.Calls.{opened, add-block, imported, import-vote, sought,
 use Rattle.round_laws.specs.Fits.{Fits}
 use Rattle.round_laws.specs.Later.{Later, here, voted, added, asked, marked, Reached, voters-of, blocks-of, votes-of, answers-of}
 use Rattle.round_laws.proofs.Shaped.{shaped-kept}
-use Rattle.round_laws.proofs.Keeps.{on-true, held-again, opening, opened-again, opened-shaped, new-opened, new-opens, import-shaped, add-shaped, ghost-shaped, index-shaped}
+use Rattle.round_laws.proofs.Keeps.{on-true, held-again, opened-again, opened-shaped, new-opened, new-opens, import-shaped, add-shaped, ghost-shaped, index-shaped}
 
--- nothing but the table and what is held has changed, by calls
-abbrev Moved : Round → Round → Type 0
-Moved r s = (frame s ≡ with-table (frame r) (s .table)) × Comes (frame r) (held r) (s .table) (held s)
-
--- a round that calls made of r: it keeps the shape, and nothing but the table and what is held has changed
+-- a round that calls made of r: it keeps the shape, and its frame and what is held come from those of r
 pub record Arrived (r s : Round) : Type 0 where
-  pub framed : frame s ≡ with-table (frame r) (s .table)
   pub keeps : T (shaped s)
-  pub comes : Comes (frame r) (held r) (s .table) (held s)
+  pub comes : Comes (frame r) (held r) (frame s) (held s)
 
 module _ (r : Round) (fits : Fits r) where
   fits-on : (s : Round) → Arrived r s → Fits s
-  fits-on s a = subst (λ (f : Frame). f .voters .total ≤ most) (sym (a .framed)) fits
+  fits-on s a = subst (λ (v : VoterSet). v .total ≤ most) (sym (comes-voters (frame r) (held r) (frame s) (held s) (a .comes))) fits
 
   module _ (s : Round) (a : Arrived r s) where
-    moved-voted : (phase : Phase) (signer : ℕ) (p : Pair) → Moved r (import-vote phase signer p s .round)
+    abbrev Moved : Round → Type 0
+    Moved q = Comes (frame r) (held r) (frame q) (held q)
+
+    moved-voted : (phase : Phase) (signer : ℕ) (p : Pair) → Moved (import-vote phase signer p s .round)
     unfolding import-vote imported
     moved-voted phase signer p =
-        let next = import (frame s) phase signer p (held s) .held in
-        on-true (λ (x : Imported). Moved r (x .round)) (shaped s) (imported phase signer p s) _ (a .keeps) (
-          a .framed,
-          subst (Comes (frame r) (held r) (s .table)) (sym (held-again s next))
-              (subst (λ (f : Frame). Comes (frame r) (held r) (s .table) (import f phase signer p (held s) .held)) (sym (a .framed))
-              (state.voted (s .table) (held s) (a .comes) phase signer p)),
-        )
+        on-true (λ (x : Imported). Moved (x .round)) (shaped s) (imported phase signer p s) _ (a .keeps)
+        (subst (Comes (frame r) (held r) (frame s)) (sym (held-again s (import (frame s) phase signer p (held s) .held)))
+        (state.voted (frame s) (held s) (a .comes) phase signer p))
 
-    moved-added : (id parent : ℕ) → Moved r (add-block id parent s .round)
+    moved-added : (id parent : ℕ) → Moved (add-block id parent s .round)
     unfolding add-block
     moved-added id parent =
-        on-true (λ (x : Grown). Moved r (x .round)) (shaped s) (call.grown s (step (s .table) id parent)) _ (a .keeps) (
-          ap (λ (f : Frame). with-table f (step (s .table) id parent .table)) (a .framed),
-          state.added (s .table) (held s) (a .comes) id parent,
-        )
+        on-true (λ (x : Grown). Moved (x .round)) (shaped s) (call.grown s (step (s .table) id parent)) _ (a .keeps)
+        (state.added (frame s) (held s) (a .comes) id parent)
 
-    moved-asked : Moved r (precommit-ghost s .round)
+    moved-asked : Moved (precommit-ghost s .round)
     unfolding precommit-ghost sought
     moved-asked =
-        on-true (λ (x : Asked). Moved r (x .round)) (shaped s) (call.with-sought s (sought s)) _ (a .keeps) (
-          a .framed,
-          subst (λ (f : Frame). Comes (frame r) (held r) (s .table) (state.sought f (held s))) (sym (a .framed))
-              (state.asked (s .table) (held s) (a .comes)),
-        )
+        on-true (λ (x : Asked). Moved (x .round)) (shaped s) (call.with-sought s (sought s)) _ (a .keeps) (state.asked (frame s) (held s) (a .comes))
 
-    moved-marked : (phase : Phase) → Moved r (set-index phase s .round)
+    moved-marked : (phase : Phase) → Moved (set-index phase s .round)
     unfolding set-index
-    moved-marked phase = on-true (λ (x : round.Kept). Moved r (x .round)) (shaped s) _ _ (a .keeps) (a .framed, go phase)
+    moved-marked phase = on-true (λ (x : round.Kept). Moved (x .round)) (shaped s) _ _ (a .keeps) (go phase)
       where
-        go : (phase : Phase) → Comes (frame r) (held r) (s .table) (held (call.with-history s (call.marked phase (s .history))))
+        go : (phase : Phase) → Moved (call.with-history s (call.marked phase (s .history)))
         go Prevote = a .comes
         go Precommit = a .comes
 
-    arrived-by : (q : Round) → T (shaped q) → Moved r q → Arrived r q
-    arrived-by q t m = record { framed = m .0; keeps = t; comes = m .1 }
-
     arrived-voted : (phase : Phase) (signer : ℕ) (p : Pair) → Arrived r (import-vote phase signer p s .round)
-    arrived-voted phase signer p = arrived-by _ (import-shaped s (fits-on s a) (a .keeps) phase signer p) (moved-voted phase signer p)
+    arrived-voted phase signer p = record { keeps = import-shaped s (fits-on s a) (a .keeps) phase signer p; comes = moved-voted phase signer p }
 
     arrived-added : (id parent : ℕ) → Arrived r (add-block id parent s .round)
-    arrived-added id parent = arrived-by _ (add-shaped s (fits-on s a) (a .keeps) id parent) (moved-added id parent)
+    arrived-added id parent = record { keeps = add-shaped s (fits-on s a) (a .keeps) id parent; comes = moved-added id parent }
 
     arrived-asked : Arrived r (precommit-ghost s .round)
-    arrived-asked = arrived-by _ (ghost-shaped s (fits-on s a) (a .keeps)) moved-asked
+    arrived-asked = record { keeps = ghost-shaped s (fits-on s a) (a .keeps); comes = moved-asked }
 
     arrived-marked : (phase : Phase) → Arrived r (set-index phase s .round)
-    arrived-marked phase = arrived-by _ (index-shaped s (fits-on s a) (a .keeps) phase) (moved-marked phase)
+    arrived-marked phase = record { keeps = index-shaped s (fits-on s a) (a .keeps) phase; comes = moved-marked phase }
 
   pub later-arrived : T (shaped r) → (s : Round) → Later r s → Arrived r s
-  later-arrived t _ here = record { framed = refl; keeps = t; comes = state.here }
+  later-arrived t _ here = record { keeps = t; comes = state.here }
   later-arrived t _ (voted s c phase signer p) = arrived-voted s (later-arrived t s c) phase signer p
   later-arrived t _ (added s c id parent) = arrived-added s (later-arrived t s c) id parent
   later-arrived t _ (asked s c) = arrived-asked s (later-arrived t s c)
@@ -111,15 +98,15 @@ module _ (r : Round) (fits : Fits r) where
   module _ (t : T (shaped r)) (s : Round) (c : Later r s) where
     -- number, voters and base stay
     pub later-frame : frame s ≡ with-table (frame r) (s .table)
-    later-frame = later-arrived t s c .framed
+    later-frame = comes-framed (frame r) (held r) (frame s) (held s) (later-arrived t s c .comes)
 
     -- blocks are added and none changes
     pub later-blocks : time.Grown (blocks-of r) (blocks-of s)
-    later-blocks = comes-grown (frame r) (held r) (shaped-kept r fits t) (s .table) (held s) (later-arrived t s c .comes)
+    later-blocks = comes-grown (frame r) (held r) (shaped-kept r fits t) (frame s) (held s) (later-arrived t s c .comes)
 
     -- votes are recorded, a first and a second, and none is taken back
     pub later-votes : (phase : Phase) (p : ℕ) → time.Later (votes-of r phase p) (votes-of s phase p)
-    later-votes phase p = comes-later (frame r) (held r) (shaped-kept r fits t) (s .table) (held s) (later-arrived t s c .comes) (bit phase p)
+    later-votes phase p = comes-later (frame r) (held r) (shaped-kept r fits t) (frame s) (held s) (later-arrived t s c .comes) (bit phase p)
 
 -- calls after calls
 pub later-on : (r s q : Round) → Later r s → Later s q → Later r q
@@ -134,7 +121,7 @@ module _ (r : Round) (reached : Reached r) where
   place = new-opened (reached .number) (reached .voters) (reached .table) (reached .base) (reached .opens) .0
 
   abbrev start : Frame
-  start = opening (reached .number) (reached .voters) (reached .table) place
+  start = framed (reached .number) (reached .voters) (reached .table) place
 
   opens : state.Opens start
   opens = new-opens (reached .number) (reached .voters) (reached .table) (reached .base) (reached .fits) (reached .opens)
@@ -157,17 +144,17 @@ module _ (r : Round) (reached : Reached r) where
   reached-shaped = arrived .keeps
 
   pub reached-state : state.Reached (frame r) (held r)
-  reached-state =
-      subst (λ (f : Frame). state.Reached f (held r)) (sym (arrived .framed ∙ ap (λ (f : Frame). with-table f (r .table)) first-framed))
-      (record { table = reached .table; opens = opens; calls = came })
+  reached-state = record { start = start; opens = opens; calls = came }
     where
-      came : Comes start (opened-held place) (r .table) (held r)
+      came : Comes start (opened-held place) (frame r) (held r)
       came =
-          subst (λ (h : Held). Comes start h (r .table) (held r)) (opened-again (reached .number) (reached .voters) (reached .table) place)
-          (subst (λ (f : Frame). Comes f (held first) (r .table) (held r)) first-framed (arrived .comes))
+          subst (λ (h : Held). Comes start h (frame r) (held r)) (opened-again (reached .number) (reached .voters) (reached .table) place)
+          (subst (λ (f : Frame). Comes f (held first) (frame r) (held r)) first-framed (arrived .comes))
 
   pub reached-fits : Fits r
-  reached-fits = subst (λ (f : Frame). f .voters .total ≤ most) (sym (arrived .framed ∙ ap (λ (f : Frame). with-table f (r .table)) first-framed)) (reached .fits)
+  reached-fits =
+      subst (λ (v : VoterSet). v .total ≤ most)
+      (sym (comes-voters (frame first) (held first) (frame r) (held r) (arrived .comes) ∙ ap (λ (f : Frame). f .voters) first-framed)) (reached .fits)
 
   pub reached-later : (s : Round) → Later r s → Reached s
   reached-later s c =
@@ -192,4 +179,4 @@ module _ (r : Round) (reached : Reached r) where
         → time.Kept (col (s .table .parents)) (equivocators (voters-of r) (votes-of s Precommit) ≤ fault (r .context .voters .total)) (answers-of r)
         (answers-of s)
     answers-stay s c =
-        reached-stays (frame r) (held r) reached-state some-weight (s .table) (held s) (later-arrived r reached-fits reached-shaped s c .comes)
+        reached-stays (frame r) (held r) reached-state some-weight (frame s) (held s) (later-arrived r reached-fits reached-shaped s c .comes)

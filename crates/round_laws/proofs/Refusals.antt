@@ -1,5 +1,6 @@
 -- A refusal hands the round back equal, and every call refuses a round that breaks the shape with 9.
 use mathlib.Core.Bool.{Bool, true, false, cond}
+use mathlib.Core.List.{List}
 use mathlib.Core.Path.{_≡_, refl, ap, _∙_}
 use Prim.Native.Nat.{ℕ}
 use native.Mathlib.Omega.{arith}
@@ -11,6 +12,7 @@ use Rattle.block_laws.proofs.Adds.{step-refused}
 use Rattle.context.specs.declared.Phase.{Phase}
 use Rattle.nodes.specs.declared.Found.{Found}
 use Rattle.nodes.specs.declared.Found.the-variants as found
+use Rattle.graph_rows.specs.declared.Row.{Row}
 use Rattle.graph_rows.proofs.Copies.{rows-words}
 use Rattle.tracker.specs.declared.Pair.{Pair}
 use Rattle.judging.specs.declared.ImportResult.the-variants as result
@@ -25,7 +27,7 @@ use Rattle.round.specs.declared.Grown.{Grown}
 use Rattle.round.specs.declared.Imported.{Imported}
 use Rattle.round.specs.declared.Asked.{Asked}
 use Rattle.round.specs.Shape.{frame, held, shaped}
-use Rattle.round.specs.Calls.{with-table, grown, add-block, with-held, imported, import-vote, sought, with-sought, precommit-ghost, set-index}
+use Rattle.round.specs.Calls.{made, with-table, grown, add-block, with-held, imported, import-vote, sought, with-sought, precommit-ghost, set-index}
 use Rattle.round.proofs.Steps.{graph-kept}
 
 -- either way of a test
@@ -36,26 +38,7 @@ on-test P false x y f g = g refl
 module _ (r : Round) where
   -- a round with what it holds is the round
   pub same-held : with-held r (held r) ≡ r
-  same-held =
-      λ i. record {
-        number = r .number;
-        context = r .context;
-        table = r .table;
-        graph = record {
-          base = r .graph .base;
-          used = r .graph .used;
-          above = r .graph .above;
-          rows = rows-words (r .graph .rows) i;
-          order = r .graph .order;
-          listed = r .graph .listed;
-          heads = r .graph .heads;
-          tips = r .graph .tips;
-        };
-        votes = r .votes;
-        history = r .history;
-        heard = r .heard;
-        answers = r .answers;
-      }
+  same-held = ap (λ (rows : List Row). made (frame r) (held r) rows (r .history .prevoted) (r .history .precommitted)) (rows-words (r .graph .rows))
 
   -- a vote that is not taken: of a stranger, refused, a duplicate, a third
   pub import-equal : (phase : Phase) (signer : ℕ) (p : Pair) → Untaken (import-vote phase signer p r .answer) → import-vote phase signer p r .round ≡ r

@@ -9,7 +9,7 @@ use Rattle.vote_graph.specs.Shape.{columns, is-graph}
 use Rattle.vote_graph.proofs.Shapes.{means-is-graph}
 use Rattle.answer_shape.specs.Stored.{all-stored, weighed}
 use Rattle.held_laws.specs.Kept.{Kept}
-use Rattle.held_laws.proofs.Tested.{tested-kept, kept-tested, kept-entries}
+use Rattle.held_laws.proofs.Tested.{tested-kept, kept-tested, kept-lengths}
 use Rattle.round.specs.declared.Round.{Round}
 use Rattle.round.specs.Shape.{frame, held, sized, index-fits, tells-votes, shaped}
 use Rattle.round.proofs.Steps.{says-sized, sized-says, graph-kept}
@@ -26,8 +26,8 @@ module _ (r : Round) where
       let e = right-of (weighed (r .context .voters .weights) (row (columns (r .graph) .rows) (r .graph .base)) (r .heard)) _ d in
       let g = graph-kept r t in
       let s = sized-says r (left-of (sized (held r)) _ b) in
-      tested-kept (frame r) (held r) (good-means (r .context .voters) (true-T _ (left-of (good (r .context .voters)) _ a))) fits (g .table) (g .sound) (g .clear) (s .wide)
-      (s .words) (s .entries-size) (true-T _ (left-of (tells-votes (frame r) (held r)) _ c))
+      tested-kept (frame r) (held r) (good-means (r .context .voters) (true-T _ (left-of (good (r .context .voters)) _ a))) fits (g .table) (g .sound) (g .clear) s
+      (true-T _ (left-of (tells-votes (frame r) (held r)) _ c))
       (left-of (weighed (r .context .voters .weights) (row (columns (r .graph) .rows) (r .graph .base)) (r .heard)) _ d)
       (left-of (all-stored (r .table .parents) (r .table .count) (r .graph .base) (r .answers)) _ e)
 
@@ -38,7 +38,7 @@ module _ (r : Round) where
       both (is-graph (r .graph) (r .table)) _ (means-is-graph (r .graph) (r .table) (shaped-tabled (r .table) (k .table)) (k .sound) (k .clear))
       (both (good (r .context .voters)) _ (T-true (means-good (r .context .voters) (k .good)))
       (both (sized (held r)) _
-      (T-true (says-sized r (record { wide = k .wide; entries-size = kept-entries (frame r) (held r) k; words = k .recorded .equivocators .0 })))
+      (T-true (says-sized r (kept-lengths (frame r) (held r) k)))
       (both (tells-votes (frame r) (held r)) _ (T-true (tests .0))
       (both (weighed (r .context .voters .weights) (row (columns (r .graph) .rows) (r .graph .base)) (r .heard)) _ (tests .1)
       (both (all-stored (r .table .parents) (r .table .count) (r .graph .base) (r .answers)) _ (tests .2)

@@ -9,7 +9,7 @@ use Rattle.round.specs.Shape.{index-fits}
 abbrev pub Fits : Round → Type 0
 Fits r = r .context .voters .total ≤ most
 
--- a set index is at most 256
+-- a set index is at most HISTORY
 pub record Marked (r : Round) : Type 0 where
   pub prevoted : T (index-fits (r .history .prevoted))
   pub precommitted : T (index-fits (r .history .precommitted))

@@ -11,6 +11,11 @@ use nodes::Found;
 use round::History;
 use round::Index;
 use round::Round;
+use sizes::BLOCKS;
+use sizes::HISTORY;
+use sizes::VOTERS;
+use sizes::VOTES;
+use sizes::WORDS;
 use tracker::Votes;
 use vote_graph::VoteGraph;
 use voter_set::VoterSet;
@@ -20,75 +25,75 @@ pub const NUMBER: usize = 0;
 
 pub const VOTER_IDS: usize = 1;
 
-pub const WEIGHTS: usize = 65;
+pub const WEIGHTS: usize = VOTER_IDS + VOTERS;
 
-pub const VOTER_COUNT: usize = 129;
+pub const VOTER_COUNT: usize = WEIGHTS + VOTERS;
 
-pub const THRESHOLD: usize = 130;
+pub const THRESHOLD: usize = VOTER_COUNT + 1;
 
-pub const TOTAL: usize = 131;
+pub const TOTAL: usize = THRESHOLD + 1;
 
-pub const EQUIVOCATIONS: usize = 132;
+pub const EQUIVOCATIONS: usize = TOTAL + 1;
 
-pub const IDS: usize = 134;
+pub const IDS: usize = EQUIVOCATIONS + WORDS;
 
-pub const NUMBERS: usize = 390;
+pub const NUMBERS: usize = IDS + BLOCKS;
 
-pub const PARENTS: usize = 646;
+pub const PARENTS: usize = NUMBERS + BLOCKS;
 
-pub const BLOCK_COUNT: usize = 902;
+pub const BLOCK_COUNT: usize = PARENTS + BLOCKS;
 
-pub const BASE: usize = 903;
+pub const BASE: usize = BLOCK_COUNT + 1;
 
-pub const USED: usize = 904;
+pub const USED: usize = BASE + 1;
 
-pub const ABOVE: usize = 1160;
+pub const ABOVE: usize = USED + BLOCKS;
 
-pub const ROWS: usize = 1416;
+pub const ROWS: usize = ABOVE + BLOCKS;
 
-pub const ORDER: usize = 1928;
+pub const ORDER: usize = ROWS + WORDS * BLOCKS;
 
-pub const LISTED: usize = 2184;
+pub const LISTED: usize = ORDER + BLOCKS;
 
-pub const HEADS: usize = 2185;
+pub const HEADS: usize = LISTED + 1;
 
-pub const TIPS: usize = 2441;
+pub const TIPS: usize = HEADS + BLOCKS;
 
-pub const TIMES: usize = 2442;
+pub const COUNTS: usize = TIPS + 1;
 
-pub const PLACES: usize = 2570;
+pub const FIRST_BLOCK: usize = COUNTS + VOTES;
 
-pub const SIGNATURES: usize = 2698;
+pub const FIRST_SIGNATURE: usize = FIRST_BLOCK + VOTES;
 
-pub const TARGETS: usize = 2826;
+pub const SECOND_TARGET: usize = FIRST_SIGNATURE + VOTES;
 
-pub const TARGET_NUMBERS: usize = 2954;
+pub const SECOND_NUMBER: usize = SECOND_TARGET + VOTES;
 
-pub const SECONDS: usize = 3082;
+pub const SECOND_SIGNATURE: usize = SECOND_NUMBER + VOTES;
 
-pub const ENTRIES: usize = 3210;
+pub const ENTRIES: usize = SECOND_SIGNATURE + VOTES;
 
-pub const ENTRY_COUNT: usize = 3466;
+pub const ENTRY_COUNT: usize = ENTRIES + HISTORY;
 
-pub const PREVOTED: usize = 3467;
+pub const PREVOTED: usize = ENTRY_COUNT + 1;
 
-pub const PRECOMMITTED: usize = 3468;
+pub const PRECOMMITTED: usize = PREVOTED + 1;
 
-pub const HEARD_PREVOTE: usize = 3469;
+pub const HEARD_PREVOTE: usize = PRECOMMITTED + 1;
 
-pub const HEARD_PRECOMMIT: usize = 3470;
+pub const HEARD_PRECOMMIT: usize = HEARD_PREVOTE + 1;
 
-pub const PREVOTE: usize = 3471;
+pub const PREVOTE: usize = HEARD_PRECOMMIT + 1;
 
-pub const PRECOMMIT: usize = 3472;
+pub const PRECOMMIT: usize = PREVOTE + 1;
 
-pub const FINALIZED: usize = 3473;
+pub const FINALIZED: usize = PRECOMMIT + 1;
 
-pub const ESTIMATE: usize = 3474;
+pub const ESTIMATE: usize = FINALIZED + 1;
 
-pub const COMPLETABLE: usize = 3475;
+pub const COMPLETABLE: usize = ESTIMATE + 1;
 
-pub const SIZE: usize = 3476;
+pub const SIZE: usize = COMPLETABLE + 1;
 
 pub fn put(flat: &mut [u64; SIZE], at: usize, x: u64) {
     if at < SIZE {
@@ -116,6 +121,10 @@ fn wider(x: u32) -> u64 {
     x as u64
 }
 
+fn entry_word(x: u16) -> u64 {
+    x as u64
+}
+
 fn bit(x: bool) -> u64 {
     if x {
         return 1;
@@ -135,14 +144,20 @@ fn put_numbers(flat: &mut [u64; SIZE], at: usize, column: &[u32]) {
     }
 }
 
+fn put_entries(flat: &mut [u64; SIZE], at: usize, column: &[u16]) {
+    for k in 0..column.len() {
+        put(flat, after(at, k), entry_word(column[k]));
+    }
+}
+
 fn put_words(flat: &mut [u64; SIZE], at: usize, column: &[u64]) {
     for k in 0..column.len() {
         put(flat, after(at, k), column[k]);
     }
 }
 
-fn put_flags(flat: &mut [u64; SIZE], at: usize, column: &[bool; 256]) {
-    for k in 0..256 {
+fn put_flags(flat: &mut [u64; SIZE], at: usize, column: &[bool; BLOCKS]) {
+    for k in 0..BLOCKS {
         put(flat, after(at, k), bit(column[k]));
     }
 }
@@ -154,8 +169,8 @@ fn put_row(flat: &mut [u64; SIZE], at: usize, row: Row) {
     put(flat, after(at, 1), bits[1]);
 }
 
-fn put_rows(flat: &mut [u64; SIZE], at: usize, rows: [Row; 256]) {
-    for k in 0..256 {
+fn put_rows(flat: &mut [u64; SIZE], at: usize, rows: [Row; BLOCKS]) {
+    for k in 0..BLOCKS {
         let row = rows[k];
         put_row(flat, after(at, 2 * k), row);
     }
@@ -192,12 +207,12 @@ fn put_graph(flat: &mut [u64; SIZE], graph: VoteGraph) {
 }
 
 fn put_votes(flat: &mut [u64; SIZE], votes: Votes) {
-    put_bytes(flat, TIMES, &votes.times);
-    put_bytes(flat, PLACES, &votes.places);
-    put_words(flat, SIGNATURES, &votes.signatures);
-    put_numbers(flat, TARGETS, &votes.targets);
-    put_numbers(flat, TARGET_NUMBERS, &votes.numbers);
-    put_words(flat, SECONDS, &votes.seconds);
+    put_bytes(flat, COUNTS, &votes.counts);
+    put_bytes(flat, FIRST_BLOCK, &votes.first_block);
+    put_words(flat, FIRST_SIGNATURE, &votes.first_signature);
+    put_numbers(flat, SECOND_TARGET, &votes.second_target);
+    put_numbers(flat, SECOND_NUMBER, &votes.second_number);
+    put_words(flat, SECOND_SIGNATURE, &votes.second_signature);
 }
 
 fn index_word(index: Index) -> u64 {
@@ -208,7 +223,7 @@ fn index_word(index: Index) -> u64 {
 }
 
 fn put_history(flat: &mut [u64; SIZE], history: History) {
-    put_bytes(flat, ENTRIES, &history.entries);
+    put_entries(flat, ENTRIES, &history.entries);
     put(flat, ENTRY_COUNT, history.count as u64);
     let prevoted = history.prevoted;
     put(flat, PREVOTED, index_word(prevoted));
@@ -261,6 +276,10 @@ fn byte_at(flat: &[u64; SIZE], at: usize) -> u8 {
     (get(flat, at) % 256) as u8
 }
 
+fn entry_at(flat: &[u64; SIZE], at: usize) -> u16 {
+    (get(flat, at) % 65536) as u16
+}
+
 fn number_at(flat: &[u64; SIZE], at: usize) -> u32 {
     (get(flat, at) % 4294967296) as u32
 }
@@ -282,14 +301,20 @@ fn get_numbers(flat: &[u64; SIZE], at: usize, column: &mut [u32]) {
     }
 }
 
+fn get_entries(flat: &[u64; SIZE], at: usize, column: &mut [u16]) {
+    for k in 0..column.len() {
+        column[k] = entry_at(flat, after(at, k));
+    }
+}
+
 fn get_words(flat: &[u64; SIZE], at: usize, column: &mut [u64]) {
     for k in 0..column.len() {
         column[k] = get(flat, after(at, k));
     }
 }
 
-fn get_flags(flat: &[u64; SIZE], at: usize, column: &mut [bool; 256]) {
-    for k in 0..256 {
+fn get_flags(flat: &[u64; SIZE], at: usize, column: &mut [bool; BLOCKS]) {
+    for k in 0..BLOCKS {
         column[k] = get(flat, after(at, k)) == 1;
     }
 }
@@ -299,10 +324,12 @@ fn row_at(flat: &[u64; SIZE], at: usize) -> Row {
     Row { bits }
 }
 
-fn get_rows(flat: &[u64; SIZE], at: usize) -> [Row; 256] {
-    let none = Row { bits: [0u64; 2] };
-    let mut rows = [none; 256];
-    for k in 0..256 {
+fn get_rows(flat: &[u64; SIZE], at: usize) -> [Row; BLOCKS] {
+    let none = Row {
+        bits: [0u64; WORDS],
+    };
+    let mut rows = [none; BLOCKS];
+    for k in 0..BLOCKS {
         let row = row_at(flat, after(at, 2 * k));
         rows[k] = row;
     }
@@ -310,9 +337,9 @@ fn get_rows(flat: &[u64; SIZE], at: usize) -> [Row; 256] {
 }
 
 fn get_context(flat: &[u64; SIZE]) -> Context {
-    let mut ids = [0u32; 64];
+    let mut ids = [0u32; VOTERS];
     get_numbers(flat, VOTER_IDS, &mut ids);
-    let mut weights = [0u64; 64];
+    let mut weights = [0u64; VOTERS];
     get_words(flat, WEIGHTS, &mut weights);
     let voters = VoterSet {
         ids,
@@ -329,11 +356,11 @@ fn get_context(flat: &[u64; SIZE]) -> Context {
 }
 
 fn get_table(flat: &[u64; SIZE]) -> BlockTable {
-    let mut ids = [0u32; 256];
+    let mut ids = [0u32; BLOCKS];
     get_numbers(flat, IDS, &mut ids);
-    let mut numbers = [0u32; 256];
+    let mut numbers = [0u32; BLOCKS];
     get_numbers(flat, NUMBERS, &mut numbers);
-    let mut parents = [0u8; 256];
+    let mut parents = [0u8; BLOCKS];
     get_bytes(flat, PARENTS, &mut parents);
     BlockTable {
         ids,
@@ -344,14 +371,14 @@ fn get_table(flat: &[u64; SIZE]) -> BlockTable {
 }
 
 fn get_graph(flat: &[u64; SIZE]) -> VoteGraph {
-    let mut used = [false; 256];
+    let mut used = [false; BLOCKS];
     get_flags(flat, USED, &mut used);
-    let mut above = [0u8; 256];
+    let mut above = [0u8; BLOCKS];
     get_bytes(flat, ABOVE, &mut above);
     let rows = get_rows(flat, ROWS);
-    let mut order = [0u8; 256];
+    let mut order = [0u8; BLOCKS];
     get_bytes(flat, ORDER, &mut order);
-    let mut heads = [0u8; 256];
+    let mut heads = [0u8; BLOCKS];
     get_bytes(flat, HEADS, &mut heads);
     VoteGraph {
         base: byte_at(flat, BASE),
@@ -366,25 +393,25 @@ fn get_graph(flat: &[u64; SIZE]) -> VoteGraph {
 }
 
 fn get_votes(flat: &[u64; SIZE]) -> Votes {
-    let mut times = [0u8; 128];
-    get_bytes(flat, TIMES, &mut times);
-    let mut places = [0u8; 128];
-    get_bytes(flat, PLACES, &mut places);
-    let mut signatures = [0u64; 128];
-    get_words(flat, SIGNATURES, &mut signatures);
-    let mut targets = [0u32; 128];
-    get_numbers(flat, TARGETS, &mut targets);
-    let mut numbers = [0u32; 128];
-    get_numbers(flat, TARGET_NUMBERS, &mut numbers);
-    let mut seconds = [0u64; 128];
-    get_words(flat, SECONDS, &mut seconds);
+    let mut counts = [0u8; VOTES];
+    get_bytes(flat, COUNTS, &mut counts);
+    let mut first_block = [0u8; VOTES];
+    get_bytes(flat, FIRST_BLOCK, &mut first_block);
+    let mut first_signature = [0u64; VOTES];
+    get_words(flat, FIRST_SIGNATURE, &mut first_signature);
+    let mut second_target = [0u32; VOTES];
+    get_numbers(flat, SECOND_TARGET, &mut second_target);
+    let mut second_number = [0u32; VOTES];
+    get_numbers(flat, SECOND_NUMBER, &mut second_number);
+    let mut second_signature = [0u64; VOTES];
+    get_words(flat, SECOND_SIGNATURE, &mut second_signature);
     Votes {
-        times,
-        places,
-        signatures,
-        targets,
-        numbers,
-        seconds,
+        counts,
+        first_block,
+        first_signature,
+        second_target,
+        second_number,
+        second_signature,
     }
 }
 
@@ -397,8 +424,8 @@ fn index_at(flat: &[u64; SIZE], at: usize) -> Index {
 }
 
 fn get_history(flat: &[u64; SIZE]) -> History {
-    let mut entries = [0u8; 256];
-    get_bytes(flat, ENTRIES, &mut entries);
+    let mut entries = [0u16; HISTORY];
+    get_entries(flat, ENTRIES, &mut entries);
     let prevoted = index_at(flat, PREVOTED);
     let precommitted = index_at(flat, PRECOMMITTED);
     History {

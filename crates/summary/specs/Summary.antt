@@ -4,6 +4,7 @@ use mathlib.Core.Bool.{false}
 use Prim.Native.Nat.{ℕ}
 use Rattle.context.specs.declared.Phase.the-variants.{Prevote, Precommit}
 use Rattle.nodes.specs.declared.Found.{Found}
+use Rattle.answers.specs.Update.{no-heard}
 use Rattle.journal.specs.declared.Turn.{Turn}
 use Rattle.journal.specs.declared.Turn.the-variants.{Voters, Blocks, Votes}
 use Rattle.feeding.specs.declared.Stop.{Stop}
@@ -28,7 +29,7 @@ bare outcome records tail =
       number = 0;
       total = 0;
       threshold = 0;
-      heard = record { prevote = 0; precommit = 0 };
+      heard = no-heard;
       prevoters = 0;
       precommitters = 0;
       prevote = Nothing;

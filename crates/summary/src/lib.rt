@@ -44,10 +44,7 @@ pub fn bare(outcome: Outcome, records: u64, tail: usize) -> Summary
         number: 0,
         total: 0,
         threshold: 0,
-        heard: Heard {
-            prevote: 0,
-            precommit: 0,
-        },
+        heard: answers::no_heard(),
         prevoters: 0,
         precommitters: 0,
         prevote: Told::Nothing,

@@ -5,6 +5,8 @@ use mathlib.Core.Path.{_≡_, refl, sym, ap, subst, _∙_}
 use Prim.Native.Nat.{ℕ, _-_, _≤_}
 use native.Mathlib.Omega.{arith}
 use lib.ListN.{length, take, drop, set, replicate, length-drop, length-set, length-replicate}
+use Rattle.sizes.specs.Sizes.{WORDS, PAIRS, BLOCKS}
+use Rattle.lent.specs.Moment.{plain}
 use Rattle.columns.specs.Lists.{padded}
 use Rattle.weights.specs.Weights.{plus}
 use Rattle.voter_set.specs.declared.VoterSet.{VoterSet}
@@ -22,9 +24,10 @@ use Rattle.nodes.specs.Nodes.{row}
 use Rattle.vote_insert.specs.Insert as graph
 use Rattle.vote_graph.proofs.Shapes.{columns-of}
 use Rattle.importing.specs.declared.Standing.{Standing}
-use Rattle.importing.specs.Import.{Frame, Held}
+use Rattle.tracker.specs.Votes.{no-votes}
+use Rattle.importing.specs.Import.{Frame, Held, blank, opened-held}
+use Rattle.importing.specs.Lent.{held-at}
 use Rattle.held_laws.specs.Kept.{Kept}
-use Rattle.held_laws.specs.Reached.{no-votes, opened-held}
 use Rattle.held_laws.proofs.Opens.{opened-kept}
 use Rattle.marks.specs.declared.Mark.the-variants.{Rt, Op}
 use Rattle.marks.specs.declared.Record.the-variants as is
@@ -52,7 +55,7 @@ use Rattle.summary.specs.declared.Outcome.the-variants as outcome
 use Rattle.summary.specs.declared.Outcome.the-variants.{Early}
 use Rattle.summary.specs.declared.Summary.{Summary}
 use Rattle.summary.specs.Summary.{bare, of-round, summed}
-use Rattle.summing.specs.Summing.{told, of-parts, blank, closed}
+use Rattle.summing.specs.Summing.{told, of-parts, closed}
 
 -- a part of the bytes from a place on, as code makes it
 abbrev part : ℕ → List ℕ → List ℕ
@@ -79,7 +82,7 @@ ends-at : (m n a : ℕ) (bs : List ℕ) (j : turns.Journal) → told m j bs ≡ 
 ends-at m n a bs j e k f r g = g ∙ (λ i. bare Early (f i) (sym (length-drop a bs) i)) ∙ sym e
 
 -- the first turn
-module _ (m : ℕ) (p : Pairs) (few : p .count ≤ 256) (q : Pairs) (n a : ℕ) (bs : List ℕ) (x : End) (e : ended q n (drop a bs) x ≡ ran paired p bs)
+module _ (m : ℕ) (p : Pairs) (few : p .count ≤ PAIRS) (q : Pairs) (n a : ℕ) (bs : List ℕ) (x : End) (e : ended q n (drop a bs) x ≡ ran paired p bs)
     (k : ℕ) (sum : k ≡ plus m n) (r : Summary) where
   matched : (y : End) → x ≡ y → ended q n (drop a bs) y ≡ ran paired p bs
   matched y f = ap (λ (z : End). ended q n (drop a bs) z) (sym f) ∙ e
@@ -125,11 +128,11 @@ module _ (m : ℕ) (v : VoterSet) (o : BlockTable) (stands : Stands Kept (growin
     blocks-stop z f =
         stops-at m n (growing v o) (laid (growing v u)) bs (drop a bs) z (blocks-refused v o u (stands .2) n bs (drop a bs) z (same (Refused z) f)) k sum r
 
-pub opened-room : (a b : ℕ) (t : BlockTable) → t ≡ table.opened a b → (t .count ≤ 256) × (length (t .ids) ≡ 256)
+pub opened-room : (a b : ℕ) (t : BlockTable) → t ≡ table.opened a b → (t .count ≤ BLOCKS) × (length (t .ids) ≡ BLOCKS)
 unfolding table.opened
 opened-room a b t e =
-    subst (λ (u : BlockTable). (u .count ≤ 256) × (length (u .ids) ≡ 256)) (sym e)
-    (omega arith, length-set (replicate 256 0) 0 a ∙ length-replicate {A = ℕ} 256 0)
+    subst (λ (u : BlockTable). (u .count ≤ BLOCKS) × (length (u .ids) ≡ BLOCKS)) (sym e)
+    (omega arith, length-set (replicate BLOCKS 0) 0 a ∙ length-replicate {A = ℕ} BLOCKS 0)
 
 -- the Rt
 module _ (m : ℕ) (p : Pairs) (bs : List ℕ) (is-rt : read bs ≡ is.Whole Rt) (fs : List ℕ) (all : fs ≡ fields Rt bs) (made : NewVoterSet)
@@ -177,23 +180,8 @@ module _ (m : ℕ) (v : VoterSet) (t : BlockTable) (stands : Stands Kept (growin
 -- the third turn, from columns that code has just blanked
 abbrev blanked : ℕ → ℕ → Standing → Held
 blanked w b z =
-    record {
-      graph = record {
-        used = set (replicate 256 false) w true;
-        above = replicate 256 0;
-        rows = replicate 256 (0 ∷ 0 ∷ []);
-        order = replicate 256 0;
-        listed = z .listed;
-        heads = set (replicate 256 0) 0 b;
-        tips = z .tips;
-      };
-      votes = no-votes;
-      entries = replicate 256 0;
-      count = z .count;
-      equivocations = z .equivocations;
-      heard = z .heard;
-      answers = z .answers;
-    }
+    held-at plain (set (replicate BLOCKS false) w true) (replicate BLOCKS 0) (replicate BLOCKS (replicate WORDS 0)) (replicate BLOCKS 0) (set (replicate BLOCKS 0) 0 b)
+    (no-votes .counts) (no-votes .«first_block») (no-votes .«first_signature») (no-votes .«second_target») (no-votes .«second_number») (no-votes .«second_signature») (replicate BLOCKS 0) z
 
 is-opened : (w b : ℕ) → w ≡ b → (z : Standing) → z ≡ blank → blanked w b z ≡ opened-held b
 unfolding graph.opened padded

@@ -1,13 +1,10 @@
 -- What a journal tells from a state on, and what it tells of a round by its parts. Document 01, "The journal".
 use mathlib.Core.List.{List}
 use Prim.Native.Nat.{ℕ}
-use lib.ListN.{replicate}
 use Rattle.context.specs.Votes.{heardIn}
 use Rattle.context.specs.declared.Phase.the-variants.{Prevote, Precommit}
 use Rattle.answers.specs.declared.Answers.{Answers}
 use Rattle.answers.specs.declared.Heard.{Heard}
-use Rattle.importing.specs.declared.Standing.{Standing}
-use Rattle.held_laws.specs.Reached.{no-answers}
 use Rattle.marks.specs.declared.End.{End}
 use Rattle.marks.specs.declared.End.the-variants.{Cut, Refused, Left}
 use Rattle.round.specs.Calls.{block-of}
@@ -40,18 +37,6 @@ of-parts ids numbers bits number total threshold heard answers records tail =
       estimate = block-of ids numbers (answers .estimate);
       finalized = block-of ids numbers (answers .finalized);
       completable = answers .completable;
-    }
-
--- nothing recorded, and the base the only node
-abbrev pub blank : Standing
-blank =
-    record {
-      listed = 0;
-      tips = 1;
-      count = 0;
-      equivocations = replicate 2 0;
-      heard = record { prevote = 0; precommit = 0 };
-      answers = no-answers;
     }
 
 -- how the third turn ends: a refusal tells nothing of the round

@@ -3,10 +3,13 @@
 ghost use mathlib.Core.Path.{_≡_};
 ghost use Prim.Native.Nat.{_≤_};
 ghost use lib.ListN.{length, take};
+ghost use Rattle.sizes.specs.Sizes.{PAIRS};
 ghost use Rattle.voter_set.specs.Voters.{new};
 ghost use Rattle.block_table.specs.Add.{opened};
 ghost use Rattle.held_laws.specs.Kept.{Kept};
-ghost use Rattle.held_laws.specs.Reached.{opened-held};
+ghost use Rattle.lent.specs.Moment.{given, before};
+ghost use Rattle.importing.specs.Import.{framed, opened-held};
+ghost use Rattle.importing.specs.Lent.{table-at};
 ghost use Rattle.marks.specs.declared.Mark.the-variants.{Rt, Op};
 ghost use Rattle.marks.specs.declared.Record.the-variants.{Whole};
 ghost use Rattle.marks.specs.Marks.{read};
@@ -15,15 +18,19 @@ ghost use Rattle.turns.specs.Turns.{pairing, growing, voting, opened-round};
 ghost use Rattle.turns.specs.Stands.{Stands};
 ghost use Rattle.feeding.specs.Feeding.{replayed};
 ghost use Rattle.summary.specs.Summary.{summed};
-ghost use Rattle.summing.specs.Summing.{told, of-parts, blank, closed};
+ghost use Rattle.summing.specs.Summing.{told, of-parts, closed};
 use answers::Answers;
 use answers::Heard;
 use blocks::Place;
 use context::Phase;
-use importing::Standing;
 use marks::End;
 use marks::Mark;
 use nodes::Found;
+use sizes::BLOCKS;
+use sizes::HISTORY;
+use sizes::PAIRS;
+use sizes::VOTES;
+use sizes::WORDS;
 use summary::Outcome;
 use summary::Summary;
 use voter_set::Answer;
@@ -32,9 +39,9 @@ use voter_set::VoterSet;
 
 // A round by its parts.
 fn of_parts<'a>(
-    ids: &'a [u32; 256],
-    heights: &'a [u32; 256],
-    bits: [u64; 2],
+    ids: &'a [u32; BLOCKS],
+    numbers: &'a [u32; BLOCKS],
+    bits: [u64; WORDS],
     number: u64,
     total: u64,
     threshold: u64,
@@ -43,14 +50,14 @@ fn of_parts<'a>(
     records: u64,
     tail: usize,
 ) -> Summary
-    ensures { λ r. ⌜ r ≡ of-parts (now (ids .entry)) (now (heights .entry)) bits number total threshold heard answers records tail ⌝ }
+    ensures { λ r. ⌜ r ≡ of-parts (now (ids .entry)) (now (numbers .entry)) bits number total threshold heard answers records tail ⌝ }
 {
     let highest = answers.prevote;
     let estimated = answers.estimate;
     let last = answers.finalized;
-    let prevote = round::block_of(ids, heights, highest);
-    let estimate = round::block_of(ids, heights, estimated);
-    let finalized = round::block_of(ids, heights, last);
+    let prevote = round::block_of(ids, numbers, highest);
+    let estimate = round::block_of(ids, numbers, estimated);
+    let finalized = round::block_of(ids, numbers, last);
     let prevoters = context::weighing::heard(bits, Phase::Prevote);
     let precommitters = context::weighing::heard(bits, Phase::Precommit);
     Summary {
@@ -72,9 +79,9 @@ fn of_parts<'a>(
 
 // How the third turn ends. The base's node has every vote.
 fn closed<'a>(
-    ids: &'a [u32; 256],
-    heights: &'a [u32; 256],
-    rows: &'a [[u64; 2]; 256],
+    ids: &'a [u32; BLOCKS],
+    numbers: &'a [u32; BLOCKS],
+    rows: &'a [[u64; WORDS]; BLOCKS],
     base: u8,
     number: u64,
     total: u64,
@@ -85,14 +92,14 @@ fn closed<'a>(
     tail: usize,
     end: End,
 ) -> Summary
-    ensures { λ r. ⌜ r ≡ closed end (of-parts (now (ids .entry)) (now (heights .entry)) (row (now (rows .entry)) base) number total threshold heard answers records tail) records ⌝ }
+    ensures { λ r. ⌜ r ≡ closed end (of-parts (now (ids .entry)) (now (numbers .entry)) (row (now (rows .entry)) base) number total threshold heard answers records tail) records ⌝ }
 {
     match end {
         End::Cut => {
             let at = climbs::wide(base);
             of_parts(
                 ids,
-                heights,
+                numbers,
                 rows[at],
                 number,
                 total,
@@ -108,56 +115,33 @@ fn closed<'a>(
     }
 }
 
-// Nothing recorded, and the base the only node.
-fn blank() -> Standing
-    ensures { λ r. ⌜ r ≡ blank ⌝ }
-{
-    Standing {
-        listed: 0,
-        tips: 1,
-        count: 0,
-        equivocations: [0u64; 2],
-        heard: Heard {
-            prevote: 0,
-            precommit: 0,
-        },
-        answers: Answers {
-            prevote: Found::Nothing,
-            precommit: Found::Nothing,
-            finalized: Found::Nothing,
-            estimate: Found::Nothing,
-            completable: false,
-        },
-    }
-}
-
 // The third turn, on a round that was just opened.
 fn votes(
     voters: VoterSet,
-    ids: &mut [u32; 256],
-    heights: &mut [u32; 256],
-    parents: &mut [u8; 256],
+    ids: &mut [u32; BLOCKS],
+    numbers: &mut [u32; BLOCKS],
+    parents: &mut [u8; BLOCKS],
     blocks: usize,
     number: u64,
     base: u8,
     records: u64,
     bytes: &[u8],
 ) -> Summary
-    requires { ⌜ Kept (record { number = number; voters = voters; table = record { ids = now ids; numbers = now heights; parents = now parents; count = blocks }; base = base }) (opened-held base) ⌝ }
-    ensures { λ r. ⌜ r ≡ told records (voting (opened-round number voters (record { ids = now (ids .entry); numbers = now (heights .entry); parents = now (parents .entry); count = blocks }) base)) (now (bytes .entry)) ⌝ }
+    requires { ⌜ Kept (framed number voters (table-at given ids numbers parents blocks) base) (opened-held base) ⌝ }
+    ensures { λ r. ⌜ r ≡ told records (voting (opened-round number voters (table-at before ids numbers parents blocks) base)) (now (bytes .entry)) ⌝ }
 {
-    let mut used = [false; 256];
-    let mut above = [0u8; 256];
-    let mut rows = [[0u64; 2]; 256];
-    let mut order = [0u8; 256];
-    let mut heads = [0u8; 256];
-    let mut times = [0u8; 128];
-    let mut places = [0u8; 128];
-    let mut signatures = [0u64; 128];
-    let mut targets = [0u32; 128];
-    let mut numbers = [0u32; 128];
-    let mut seconds = [0u64; 128];
-    let mut entries = [0u8; 256];
+    let mut used = [false; BLOCKS];
+    let mut above = [0u8; BLOCKS];
+    let mut rows = [[0u64; WORDS]; BLOCKS];
+    let mut order = [0u8; BLOCKS];
+    let mut heads = [0u8; BLOCKS];
+    let mut counts = [0u8; VOTES];
+    let mut first_block = [0u8; VOTES];
+    let mut first_signature = [0u64; VOTES];
+    let mut second_target = [0u32; VOTES];
+    let mut second_number = [0u32; VOTES];
+    let mut second_signature = [0u64; VOTES];
+    let mut entries = [0u16; HISTORY];
     let at = climbs::wide(base);
     used[at] = true;
     heads[0] = base;
@@ -169,7 +153,7 @@ fn votes(
         voters.threshold,
         number,
         ids,
-        heights,
+        numbers,
         parents,
         blocks,
         base,
@@ -178,14 +162,14 @@ fn votes(
         &mut rows,
         &mut order,
         &mut heads,
-        &mut times,
-        &mut places,
-        &mut signatures,
-        &mut targets,
-        &mut numbers,
-        &mut seconds,
+        &mut counts,
+        &mut first_block,
+        &mut first_signature,
+        &mut second_target,
+        &mut second_number,
+        &mut second_signature,
         &mut entries,
-        blank(),
+        importing::blank(),
         bytes,
     );
     let standing = ran.standing;
@@ -194,7 +178,7 @@ fn votes(
     let end = ran.end;
     closed(
         ids,
-        heights,
+        numbers,
         &rows,
         base,
         number,
@@ -211,15 +195,15 @@ fn votes(
 // The Op, and what follows it.
 fn open(
     voters: VoterSet,
-    ids: &mut [u32; 256],
-    heights: &mut [u32; 256],
-    parents: &mut [u8; 256],
+    ids: &mut [u32; BLOCKS],
+    numbers: &mut [u32; BLOCKS],
+    parents: &mut [u8; BLOCKS],
     blocks: usize,
     records: u64,
     part: &[u8],
 ) -> Summary
-    requires { ⌜ Stands Kept (growing voters (record { ids = now ids; numbers = now heights; parents = now parents; count = blocks })) × (read (now part) ≡ Whole Op) ⌝ }
-    ensures { λ r. ⌜ r ≡ told records (growing voters (record { ids = now (ids .entry); numbers = now (heights .entry); parents = now (parents .entry); count = blocks })) (now (part .entry)) ⌝ }
+    requires { ⌜ Stands Kept (growing voters (table-at given ids numbers parents blocks)) × (read (now part) ≡ Whole Op) ⌝ }
+    ensures { λ r. ⌜ r ≡ told records (growing voters (table-at before ids numbers parents blocks)) (now (part .entry)) ⌝ }
 {
     let fields = marks::fields(part, Mark::Op);
     let number = marks::long(fields, 0);
@@ -231,7 +215,7 @@ fn open(
     votes(
         voters,
         ids,
-        heights,
+        numbers,
         parents,
         blocks,
         number,
@@ -278,8 +262,14 @@ fn make(ids: &[u32], weights: &[u64], count: usize) -> NewVoterSet
 }
 
 // The Rt, and what follows it.
-fn root(ids: &[u32; 256], weights: &[u64; 256], pairs: usize, records: u64, part: &[u8]) -> Summary
-    requires { ⌜ (pairs ≤ 256) × (read (now part) ≡ Whole Rt) ⌝ }
+fn root(
+    ids: &[u32; PAIRS],
+    weights: &[u64; PAIRS],
+    pairs: usize,
+    records: u64,
+    part: &[u8],
+) -> Summary
+    requires { ⌜ (pairs ≤ PAIRS) × (read (now part) ≡ Whole Rt) ⌝ }
     ensures { λ r. ⌜ r ≡ told records (pairing (record { ids = now (ids .entry); weights = now (weights .entry); count = pairs })) (now (part .entry)) ⌝ }
 {
     let fields = marks::fields(part, Mark::Rt);
@@ -305,8 +295,8 @@ fn root(ids: &[u32; 256], weights: &[u64; 256], pairs: usize, records: u64, part
 pub fn replayed(bytes: &[u8]) -> Summary
     ensures { λ r. ⌜ r ≡ summed (replayed (now (bytes .entry))) ⌝ }
 {
-    let mut ids = [0u32; 256];
-    let mut weights = [0u64; 256];
+    let mut ids = [0u32; PAIRS];
+    let mut weights = [0u64; PAIRS];
     let ran = pairing::run(&mut ids, &mut weights, 0, bytes);
     let at = ran.at;
     let end = ran.end;

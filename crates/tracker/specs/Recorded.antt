@@ -3,7 +3,8 @@
 use mathlib.Core.Bool.{Bool, cond, _&&_}
 use mathlib.Core.List.{List}
 use Prim.Native.Nat.{ℕ, zero, suc}
-use lib.Dec.{eqb}
+use lib.Dec.{eqb, ltb}
+use Rattle.layouts.specs.Layout.{entry-index, entry-pair}
 use Rattle.grandpa.specs.Vote.{Vote, silent, once, twice}
 use Rattle.nodes.specs.Nodes.{col}
 use Rattle.tracker.specs.declared.Votes.{Votes}
@@ -25,18 +26,18 @@ add-vote (Equivocated a b) p = cond (same a p) added.Duplicated (cond (same b p)
 
 -- the first pair at an index: its target by the ids and numbers of the block table
 abbrev pub first-pair : List ℕ → List ℕ → List ℕ → List ℕ → ℕ → Pair
-first-pair places signatures ids heights j =
-    record { target = col ids (col places j); number = col heights (col places j); signature = col signatures j }
+first-pair first-block first-signature ids numbers j =
+    record { target = col ids (col first-block j); number = col numbers (col first-block j); signature = col first-signature j }
 
 abbrev pub second-pair : List ℕ → List ℕ → List ℕ → ℕ → Pair
-second-pair targets numbers seconds j = record { target = col targets j; number = col numbers j; signature = col seconds j }
+second-pair second-target second-number second-signature j = record { target = col second-target j; number = col second-number j; signature = col second-signature j }
 
 -- the pairs at an index
 unfoldable pub recorded : Votes → List ℕ → List ℕ → ℕ → VoteMultiplicity
-recorded v ids heights j =
-    let a = first-pair (v .places) (v .signatures) ids heights j in
-    cond (eqb (col (v .times) j) 0) Silent
-    (cond (eqb (col (v .times) j) 1) (Single a) (Equivocated a (second-pair (v .targets) (v .numbers) (v .seconds) j)))
+recorded v ids numbers j =
+    let a = first-pair (v .«first_block») (v .«first_signature») ids numbers j in
+    cond (eqb (col (v .counts) j) 0) Silent
+    (cond (eqb (col (v .counts) j) 1) (Single a) (Equivocated a (second-pair (v .«second_target») (v .«second_number») (v .«second_signature») j)))
 
 -- the same for the definitions, which speak of the first target alone
 abbrev pub cast-of : ℕ → ℕ → Vote
@@ -45,4 +46,8 @@ cast-of (suc zero) block = once block
 cast-of (suc (suc n)) block = twice block
 
 unfoldable pub cast : Votes → ℕ → Vote
-cast v j = cast-of (col (v .times) j) (col (v .places) j)
+cast v j = cast-of (col (v .counts) j) (col (v .«first_block») j)
+
+-- whether the pair that an entry of history stands for is recorded
+abbrev pub paired : List ℕ → ℕ → Bool
+paired counts e = ltb (entry-pair e) (col counts (entry-index e))

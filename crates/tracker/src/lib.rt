@@ -1,18 +1,23 @@
-// What is recorded of a voter in a phase: `VoteTracker` of round.rs, in columns for both phases. The voter at place p has index
-// 2p for its prevotes and 2p + 1 for its precommits, as its bits have.
+// What is recorded of a voter in a phase: `VoteTracker` of round.rs, in columns for both phases. A voter's votes in a phase have an
+// index, which is its bit.
 ghost use mathlib.Core.Path.{_≡_};
 ghost use Prim.Native.Nat.{_<_};
+ghost use Rattle.sizes.specs.Sizes.{VOTES};
+ghost use Rattle.lent.specs.Moment.{before};
 ghost use Rattle.tracker.specs.Recorded.{same, add-vote, first-pair, recorded};
+ghost use Rattle.tracker.specs.Votes.{votes-at, no-votes};
+use sizes::BLOCKS;
+use sizes::VOTES;
 
 // How many pairs are recorded at an index, 0, 1 or 2; the place of the first pair's target in the block table, and its
 // signature; the second pair as it came, since its target is not looked up. Unused places are 0.
 pub struct Votes {
-    pub times: [u8; 128],
-    pub places: [u8; 128],
-    pub signatures: [u64; 128],
-    pub targets: [u32; 128],
-    pub numbers: [u32; 128],
-    pub seconds: [u64; 128],
+    pub counts: [u8; VOTES],
+    pub first_block: [u8; VOTES],
+    pub first_signature: [u64; VOTES],
+    pub second_target: [u32; VOTES],
+    pub second_number: [u32; VOTES],
+    pub second_signature: [u64; VOTES],
 }
 
 // A vote and its signature.
@@ -34,6 +39,19 @@ pub enum AddVoteResult {
     Duplicated,
     Equivocated(Pair),
     Ignored,
+}
+
+pub fn no_votes() -> Votes
+    ensures { λ r. ⌜ r ≡ no-votes ⌝ }
+{
+    Votes {
+        counts: [0u8; VOTES],
+        first_block: [0u8; VOTES],
+        first_signature: [0u64; VOTES],
+        second_target: [0u32; VOTES],
+        second_number: [0u32; VOTES],
+        second_signature: [0u64; VOTES],
+    }
 }
 
 fn same(a: Pair, b: Pair) -> bool
@@ -74,50 +92,50 @@ pub fn add_vote(recorded: VoteMultiplicity, pair: Pair) -> AddVoteResult
 
 // The first pair: its target by the table.
 fn first_pair<'a>(
-    places: &'a [u8; 128],
-    signatures: &'a [u64; 128],
-    ids: &'a [u32; 256],
-    heights: &'a [u32; 256],
+    first_block: &'a [u8; VOTES],
+    first_signature: &'a [u64; VOTES],
+    ids: &'a [u32; BLOCKS],
+    numbers: &'a [u32; BLOCKS],
     at: usize,
 ) -> Pair
-    requires { ⌜ at < 128 ⌝ }
-    ensures { λ r. ⌜ r ≡ first-pair (now (places .entry)) (now (signatures .entry)) (now (ids .entry)) (now (heights .entry)) at ⌝ }
+    requires { ⌜ at < VOTES ⌝ }
+    ensures { λ r. ⌜ r ≡ first-pair (now («first_block» .entry)) (now («first_signature» .entry)) (now (ids .entry)) (now (numbers .entry)) at ⌝ }
 {
-    let block = climbs::wide(places[at]);
+    let block = climbs::wide(first_block[at]);
     Pair {
         target: ids[block],
-        number: heights[block],
-        signature: signatures[at],
+        number: numbers[block],
+        signature: first_signature[at],
     }
 }
 
 // The pairs recorded at an index.
 pub fn recorded<'a>(
-    times: &'a [u8; 128],
-    places: &'a [u8; 128],
-    signatures: &'a [u64; 128],
-    targets: &'a [u32; 128],
-    numbers: &'a [u32; 128],
-    seconds: &'a [u64; 128],
-    ids: &'a [u32; 256],
-    heights: &'a [u32; 256],
+    counts: &'a [u8; VOTES],
+    first_block: &'a [u8; VOTES],
+    first_signature: &'a [u64; VOTES],
+    second_target: &'a [u32; VOTES],
+    second_number: &'a [u32; VOTES],
+    second_signature: &'a [u64; VOTES],
+    ids: &'a [u32; BLOCKS],
+    numbers: &'a [u32; BLOCKS],
     at: usize,
 ) -> VoteMultiplicity
-    requires { ⌜ at < 128 ⌝ }
-    ensures { λ r. ⌜ r ≡ recorded (record { times = now (times .entry); places = now (places .entry); signatures = now (signatures .entry); targets = now (targets .entry); numbers = now (numbers .entry); seconds = now (seconds .entry) }) (now (ids .entry)) (now (heights .entry)) at ⌝ }
+    requires { ⌜ at < VOTES ⌝ }
+    ensures { λ r. ⌜ r ≡ recorded (votes-at before counts «first_block» «first_signature» «second_target» «second_number» «second_signature») (now (ids .entry)) (now (numbers .entry)) at ⌝ }
 {
-    let n = times[at];
+    let n = counts[at];
     if n == 0 {
         return VoteMultiplicity::Silent;
     }
-    let first = first_pair(places, signatures, ids, heights, at);
+    let first = first_pair(first_block, first_signature, ids, numbers, at);
     if n == 1 {
         return VoteMultiplicity::Single(first);
     }
     let second = Pair {
-        target: targets[at],
-        number: numbers[at],
-        signature: seconds[at],
+        target: second_target[at],
+        number: second_number[at],
+        signature: second_signature[at],
     };
     VoteMultiplicity::Equivocated(first, second)
 }

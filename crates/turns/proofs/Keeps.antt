@@ -7,6 +7,7 @@ use native.Mathlib.Omega.{arith}
 use lib.Dec.{leb}
 use lib.ListN.{take}
 use borrow.Author.Tests.{leb-false}
+use Rattle.sizes.specs.Sizes.{PAIRS}
 use Rattle.weights.specs.Weights.{most}
 use Rattle.voter_set.specs.declared.VoterSet.{VoterSet}
 use Rattle.voter_set.specs.declared.Answer.{Answer}
@@ -26,9 +27,9 @@ use Rattle.block_laws.proofs.Adds.{opened-shaped, found-stands, step-keeps}
 use Rattle.context.specs.declared.Phase.{Phase}
 use Rattle.context.specs.declared.Phase.the-variants.{Prevote, Precommit}
 use Rattle.tracker.specs.declared.Pair.{Pair}
-use Rattle.importing.specs.Import.{Frame, Held, import}
+use Rattle.importing.specs.Import.{Frame, framed, with-table, Held, opened-held, import}
 use Rattle.held_laws.specs.Kept.{Kept}
-use Rattle.held_laws.specs.Reached.{opened-held, Opens, Reached, with-table}
+use Rattle.held_laws.specs.Reached.{Opens, Reached}
 use Rattle.held_laws.proofs.Opens.{opened-kept}
 use Rattle.held_laws.proofs.Keeps.{import-keeps}
 use Rattle.held_laws.proofs.Adds.{adding-keeps}
@@ -60,13 +61,13 @@ on-then Q R e (goes s) left f q l = f s q
 on-then Q R e (stops k) left f q l = tt
 on-then Q R e leaves left f q l = l
 
-pub paired-few : (p : Pairs) → p .count ≤ 256 → (m : Mark) (fs : List ℕ) → Then (λ (q : Pairs). q .count ≤ 256) (paired p m fs)
+pub paired-few : (p : Pairs) → p .count ≤ PAIRS → (m : Mark) (fs : List ℕ) → Then (λ (q : Pairs). q .count ≤ PAIRS) (paired p m fs)
 unfolding paired
-paired-few p h Vt fs = go (leb 256 (p .count)) refl
+paired-few p h Vt fs = go (leb PAIRS (p .count)) refl
   where
-    go : (b : Bool) → leb 256 (p .count) ≡ b → Then (λ (q : Pairs). q .count ≤ 256) (cond b (stops 1) (goes (with-pair p (word fs 0) (long fs 4))))
+    go : (b : Bool) → leb PAIRS (p .count) ≡ b → Then (λ (q : Pairs). q .count ≤ PAIRS) (cond b (stops 1) (goes (with-pair p (word fs 0) (long fs 4))))
     go true e = tt
-    go false e = omega (arith, leb-false 256 (p .count) e)
+    go false e = omega (arith, leb-false PAIRS (p .count) e)
 paired-few p h Rt fs = tt
 paired-few p h Bk fs = tt
 paired-few p h Op fs = tt
@@ -142,7 +143,7 @@ module _ (P : Frame → Held → Type 0)
       go : (o : Place) → place-of (t .ids) (t .count) (word fs 8) ≡ o
           → Then (Stands P) (on-place o (λ b. goes (voting (opened-round (long fs 0) v t b))) (stops 10))
       go (At b) e =
-          opens (record { number = long fs 0; voters = v; table = t; base = b })
+          opens (framed (long fs 0) v t b)
           (record { good = g; fits = l; table = s; in-table = found-stands t s (word fs 8) b e .inside })
       go Nothing e = tt
 
@@ -150,7 +151,7 @@ module _ (P : Frame → Held → Type 0)
   pub took-stands : (j : Journal) → Stands P j → (m : Mark) (fs : List ℕ) → Then (Stands P) (took j m fs)
   unfolding took
   took-stands (pairing p) h m fs =
-      on-then (λ (q : Pairs). q .count ≤ 256) (Stands P) pairing (paired p m fs) (rooted p fs) (λ q l. l) (paired-few p h m fs) (rooted-stands p fs)
+      on-then (λ (q : Pairs). q .count ≤ PAIRS) (Stands P) pairing (paired p m fs) (rooted p fs) (λ q l. l) (paired-few p h m fs) (rooted-stands p fs)
   took-stands (growing v t) h m fs =
       on-then Shaped (Stands P) (growing v) (grown t m fs) (based v t fs) (λ u s. (h .0, h .1, s)) (grown-shaped t (h .2) m fs)
       (based-stands v t (h .0) (h .1) (h .2) fs)

@@ -4,6 +4,7 @@
 use mathlib.Core.List.{List}
 use Prim.Native.Nat.{ℕ}
 use lib.ListN.{take, replicate}
+use Rattle.sizes.specs.Sizes.{PAIRS}
 use Rattle.voter_set.specs.declared.VoterSet.{VoterSet}
 use Rattle.voter_set.specs.declared.Answer.{Answer}
 use Rattle.voter_set.specs.declared.Answer.the-variants.{Made, Refused}
@@ -13,15 +14,14 @@ use Rattle.blocks.specs.declared.BlockTable.{BlockTable}
 use Rattle.blocks.specs.declared.Place.{Place}
 use Rattle.blocks.specs.Add.{place-of, on-place}
 use Rattle.block_table.specs.Add.{opened}
-use Rattle.importing.specs.Import.{Frame}
-use Rattle.held_laws.specs.Reached.{opened-held}
+use Rattle.importing.specs.Import.{framed, opened-held}
 use Rattle.marks.specs.declared.Mark.{Mark}
 use Rattle.marks.specs.Marks.{word, long}
 use Rattle.runs.specs.Run.{Next, goes, stops, on-next, Run, ran}
 use Rattle.pairing.specs.declared.Pairs.{Pairs}
 use Rattle.pairing.specs.Pairing.{paired}
 use Rattle.growing.specs.Growing.{grown}
-use Rattle.voting.specs.Voting.{Voting, voted}
+use Rattle.voting.specs.Voting.{Voting, both, voted}
 
 -- what a journal has told so far, by turn: voters' pairs, then voters and blocks, then a round
 pub data Journal : Type 0 where
@@ -41,8 +41,7 @@ rooted p fs =
 
 -- the Op: a round with no votes on a block of the table
 abbrev pub opened-round : ℕ → VoterSet → BlockTable → ℕ → Voting
-opened-round number voters table base =
-    record { frame = record { number = number; voters = voters; table = table; base = base }; held = opened-held base }
+opened-round number voters table base = both (framed number voters table base) (opened-held base)
 
 unfoldable pub based : VoterSet → BlockTable → List ℕ → Next Journal
 based voters table fs =
@@ -56,7 +55,7 @@ took (voting r) m fs = on-next (voted r m fs) (λ s. goes (voting s)) stops (sto
 
 -- before the first record
 abbrev pub no-pairs : Pairs
-no-pairs = record { ids = replicate 256 0; weights = replicate 256 0; count = 0 }
+no-pairs = record { ids = replicate PAIRS 0; weights = replicate PAIRS 0; count = 0 }
 
 -- a journal's bytes: the records up to the first refusal, how many were taken, the bytes after them, and why no more are taken
 unfoldable pub replayed : List ℕ → Run Journal

@@ -3,16 +3,20 @@ use mathlib.Core.Bool.{Bool, not, _||_}
 use mathlib.Core.List.{List}
 use mathlib.Core.Path.{_≡_, refl, sym, ap, subst, _∙_}
 use mathlib.Core.Logic.{_⊎_, inl, inr}
-use Prim.Native.Nat.{ℕ, zero, suc, _+_, _*_, _≤_, _<_}
+use Prim.Native.Nat.{ℕ, zero, suc, _+_, _≤_, _<_}
 use native.Mathlib.Decide.{ℕ-discrete}
 use native.Mathlib.Omega.{arith}
 use lib.Dec.{T, eqb, leb, leb→le}
 use borrow.Author.Tests.{eq-eqb, ne-eqb}
+use Rattle.sizes.specs.Sizes.{VOTERS, VOTES}
 use Rattle.loops.proofs.Tests.{left-of, right-of, either}
 use Rattle.loops.proofs.Alls.{all-at}
 use Rattle.loops.proofs.Sums.{weigh-cong}
 use Rattle.grandpa.specs.Vote.{Vote, silent, once, twice, equivocated}
-use Rattle.grandpa.specs.Views.{differ, differ-from, targets-differ, two-views}
+use Rattle.grandpa.specs.Views.{differ, differ-from, two-views, targets-differ}
+use Rattle.context.specs.declared.Phase.the-variants.{Precommit}
+use Rattle.context.specs.Votes.{bit}
+use Rattle.context.proofs.Places.{bit-few}
 use Rattle.graph.specs.Shape.{Targets}
 use Rattle.blocks.specs.declared.BlockTable.{BlockTable}
 use Rattle.voter_set.specs.Good.{good}
@@ -42,7 +46,7 @@ target-at used (suc (suc n)) b x h e = go (either (leb (suc (suc n)) 0) (used b)
     go (inr u) = subst (λ (y : ℕ). T (used y)) e u
 
 module _ (r : Round) (t : T (shaped r)) where
-  targets-tested : T (targets-used (r .graph .used) (r .votes .times) (r .votes .places))
+  targets-tested : T (targets-used (r .graph .used) (r .votes .counts) (r .votes .«first_block»))
   unfolding shaped tells-votes voted noded
   targets-tested =
       let a = right-of (is-graph (r .graph) (r .table)) _ t in
@@ -50,16 +54,16 @@ module _ (r : Round) (t : T (shaped r)) where
       let c = right-of (sized (held r)) _ b in
       let d = left-of (tells-votes (frame r) (held r)) _ c in
       let e = right-of (tidy (r .context .voters .count) (r .votes)) _ d in
-      let f = left-of (noded (r .graph .base) (r .graph .used) (r .votes .times) (r .votes .places)) _ e in
-      left-of (targets-used (r .graph .used) (r .votes .times) (r .votes .places)) _ (right-of (flag (r .graph .used) (r .graph .base)) _ f)
+      let f = left-of (noded (r .graph .base) (r .graph .used) (r .votes .counts) (r .votes .«first_block»)) _ e in
+      left-of (targets-used (r .graph .used) (r .votes .counts) (r .votes .«first_block»)) _ (right-of (flag (r .graph .used) (r .graph .base)) _ f)
 
   -- a recorded first target is in the table
-  pub target-tabled : (j : ℕ) → j < 128 → (x : ℕ) → Targets (cast (r .votes) j) x → x < r .table .count
+  pub target-tabled : (j : ℕ) → j < VOTES → (x : ℕ) → Targets (cast (r .votes) j) x → x < r .table .count
   unfolding targets-used cast
   target-tabled j h x e =
       graph-kept r t .sound .nodes .tabled x
-      (target-at (flag (r .graph .used)) (col (r .votes .times) j) (col (r .votes .places) j) x
-      (all-at (λ i. leb (col (r .votes .times) i) 0 || flag (r .graph .used) (col (r .votes .places) i)) 128 targets-tested j h) e)
+      (target-at (flag (r .graph .used)) (col (r .votes .counts) j) (col (r .votes .«first_block») j) x
+      (all-at (λ i. leb (col (r .votes .counts) i) 0 || flag (r .graph .used) (col (r .votes .«first_block») i)) VOTES targets-tested j h) e)
 
 module _ (ids : List ℕ) (n : ℕ) (distinct : (s x : ℕ) → s < n → x < n → col ids s ≡ col ids x → s ≡ x) where
   place-by : (s x : ℕ) → s < n → x < n → eqb s x ≡ eqb (col ids s) (col ids x)
@@ -97,14 +101,17 @@ views-by-id a b s t o =
     subst (λ (y : BlockTable). two-views (voters a) (precommits a) (precommits b) ≡ two-views (voters a) (λ p. by-id (a .table .ids) (precommits a p)) (λ p. by-id (y .ids) (precommits b p)))
     (o .table) here
   where
-    few : a .context .voters .count ≤ 64
+    few : a .context .voters .count ≤ VOTERS
     few = voters-good a s .few
+
+    in-words : (p : ℕ) → p < a .context .voters .count → bit Precommit p < VOTES
+    in-words p h = bit-few Precommit p (omega (arith, few))
 
     apart : (x y : ℕ) → x < a .table .count → y < a .table .count → col (a .table .ids) x ≡ col (a .table .ids) y → x ≡ y
     apart x y h k e =
         graph-kept a s .table .distinct (col (a .table .ids) y) x y (record { inside = h; named = e }) (record { inside = k; named = refl })
 
-    inside : (j : ℕ) → j < 128 → (x : ℕ) → Targets (cast (b .votes) j) x → x < a .table .count
+    inside : (j : ℕ) → j < VOTES → (x : ℕ) → Targets (cast (b .votes) j) x → x < a .table .count
     inside j h x e = subst (λ (y : BlockTable). x < y .count) (sym (o .table)) (target-tabled b t j h x e)
 
     here : two-views (voters a) (precommits a) (precommits b)
@@ -112,4 +119,4 @@ views-by-id a b s t o =
     here =
         weigh-cong (a .context .voters .count) (voters a .weight) _ _
         (λ p h. differ-by (a .table .ids) (a .table .count) apart (precommits a p) (precommits b p)
-        (target-tabled a s (2 * p + 1) (omega (arith, few))) (inside (2 * p + 1) (omega (arith, few))))
+        (target-tabled a s (bit Precommit p) (in-words p h)) (inside (bit Precommit p) (in-words p h)))

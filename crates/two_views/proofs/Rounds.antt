@@ -5,6 +5,7 @@ use Prim.Native.Nat.{ℕ, _≤_}
 use native.Mathlib.Omega.{arith}
 use lib.Dec.{T}
 use lib.ListN.{getD}
+use Rattle.sizes.specs.Sizes.{VOTERS}
 use Rattle.loops.specs.Sum.{sum, weigh}
 use Rattle.loops.proofs.Tests.{true-T, left-of, right-of}
 use Rattle.loops.proofs.Sums.{sum-fewer, weigh-le}
@@ -32,13 +33,13 @@ module _ (r : Round) (t : T (shaped r)) where
       omega (
         arith,
         weigh-le (r .context .voters .count) (λ p. getD (r .context .voters .weights) p 0) s,
-        sum-fewer (r .context .voters .count) 64 (λ p. getD (r .context .voters .weights) p 0) (g .few),
+        sum-fewer (r .context .voters .count) VOTERS (λ p. getD (r .context .voters .weights) p 0) (g .few),
         g .total-is,
       )
 
   -- nothing saturates
   pub differing-is : r .context .voters .total ≤ most → (o : Round) (x : ℕ)
-      → x ≡ differing (r .votes .times) (r .votes .places) (o .votes .times) (o .votes .places) (r .context .voters .weights) (r .context .voters .count)
+      → x ≡ differing (r .votes .counts) (r .votes .«first_block») (o .votes .counts) (o .votes .«first_block») (r .context .voters .weights) (r .context .voters .count)
       → x ≡ two-views (voters r) (precommits r) (precommits o)
   unfolding differing apart cast
   differing-is h o x e = omega (arith, weight-fits (λ p. differ (precommits r p) (precommits o p)))

@@ -3,7 +3,7 @@ use mathlib.Core.Bool.{Bool, true, false, cond, not}
 use mathlib.Core.List.{List}
 use mathlib.Core.Path.{_≡_, refl, ap, _∙_}
 use mathlib.Core.Logic.{_≢_}
-use Prim.Native.Nat.{ℕ, zero, suc, _+_, _*_, _≤_, _<_}
+use Prim.Native.Nat.{ℕ, zero, suc, _+_, _≤_, _<_}
 use native.Mathlib.Omega.{arith}
 use lib.Dec.{eqb}
 use lib.ListN.{length, getD}
@@ -12,35 +12,37 @@ use Rattle.loops.specs.All.{all}
 use Rattle.loops.proofs.Alls.{all-false}
 use Rattle.loops.proofs.Sums.{sum-none, sum-more}
 use Rattle.weights.specs.Weights.{plus}
-use Rattle.grandpa.specs.Vote.{silent}
-use Rattle.grandpa.specs.Views.{differ}
+use Rattle.grandpa.specs.Vote.{Vote, silent}
+use Rattle.grandpa.specs.Views.{differ, differ-from}
+use Rattle.context.specs.declared.Phase.the-variants.{Precommit}
+use Rattle.context.specs.Votes.{bit}
 use Rattle.nodes.specs.Nodes.{col}
 use Rattle.tracker.specs.Recorded.{cast-of}
 use Rattle.two_views.specs.Views.{apart, differing, same}
 
-module _ (times places others theirs : List ℕ) where
+module _ (counts first-block others theirs : List ℕ) where
   -- one voter: the votes at an index, by how often it voted
-  pub apart-twice : (j : ℕ) → 1 < col times j → apart times places others theirs j ≡ true
+  pub apart-twice : (j : ℕ) → 1 < col counts j → apart counts first-block others theirs j ≡ true
   unfolding apart
-  apart-twice j h = go (col times j) h
+  apart-twice j h = go (col counts j) h
     where
-      go : (n : ℕ) → 1 < n → differ (cast-of n (col places j)) (cast-of (col others j) (col theirs j)) ≡ true
+      go : (n : ℕ) → 1 < n → differ (cast-of n (col first-block j)) (cast-of (col others j) (col theirs j)) ≡ true
       go zero l = absurd (omega arith)
       go (suc zero) l = absurd (omega arith)
       go (suc (suc n)) l = refl
 
-  pub apart-twice-there : (j : ℕ) → col times j ≤ 1 → 1 < col others j → apart times places others theirs j ≡ true
+  pub apart-twice-there : (j : ℕ) → col counts j ≤ 1 → 1 < col others j → apart counts first-block others theirs j ≡ true
   unfolding apart
-  apart-twice-there j h k = go (col times j) (col others j) h k
+  apart-twice-there j h k = go (col counts j) (col others j) h k
     where
-      go : (n m : ℕ) → n ≤ 1 → 1 < m → differ (cast-of n (col places j)) (cast-of m (col theirs j)) ≡ true
+      go : (n m : ℕ) → n ≤ 1 → 1 < m → differ (cast-of n (col first-block j)) (cast-of m (col theirs j)) ≡ true
       go n zero h l = absurd (omega arith)
       go n (suc zero) h l = absurd (omega arith)
       go zero (suc (suc m)) h l = refl
       go (suc zero) (suc (suc m)) h l = refl
       go (suc (suc n)) (suc (suc m)) h l = refl
 
-  pub apart-silent : (j : ℕ) → col times j ≡ 0 → col others j ≤ 1 → apart times places others theirs j ≡ false
+  pub apart-silent : (j : ℕ) → col counts j ≡ 0 → col others j ≤ 1 → apart counts first-block others theirs j ≡ false
   unfolding apart
   apart-silent j e h = rw e (go (col others j) h)
     where
@@ -49,36 +51,36 @@ module _ (times places others theirs : List ℕ) where
       go (suc zero) l = refl
       go (suc (suc m)) l = absurd (omega arith)
 
-  pub apart-unheard : (j : ℕ) → col times j ≤ 1 → col others j ≡ 0 → apart times places others theirs j ≡ false
+  pub apart-unheard : (j : ℕ) → col counts j ≤ 1 → col others j ≡ 0 → apart counts first-block others theirs j ≡ false
   unfolding apart
-  apart-unheard j h e = rw e (go (col times j) h)
+  apart-unheard j h e = rw e (go (col counts j) h)
     where
-      go : (n : ℕ) → n ≤ 1 → differ (cast-of n (col places j)) silent ≡ false
+      go : (n : ℕ) → n ≤ 1 → differ (cast-of n (col first-block j)) silent ≡ false
       go zero l = refl
       go (suc zero) l = refl
       go (suc (suc n)) l = absurd (omega arith)
 
-  pub apart-both : (j : ℕ) → col times j ≡ 1 → col others j ≡ 1 → apart times places others theirs j ≡ not (eqb (col places j) (col theirs j))
+  pub apart-both : (j : ℕ) → col counts j ≡ 1 → col others j ≡ 1 → apart counts first-block others theirs j ≡ not (eqb (col first-block j) (col theirs j))
   unfolding apart
   apart-both j e f = rw (e, f)
 
   -- a turn of the sum
   module _ (weights : List ℕ) where
-    pub differing-none : 0 ≡ differing times places others theirs weights 0
+    pub differing-none : 0 ≡ differing counts first-block others theirs weights 0
     unfolding differing
-    differing-none = omega (arith, sum-none (λ p. cond (apart times places others theirs (2 * p + 1)) (getD weights p 0) 0))
+    differing-none = omega (arith, sum-none (λ p. cond (apart counts first-block others theirs (bit Precommit p)) (getD weights p 0) 0))
 
-    pub differing-skip : (k : ℕ) → apart times places others theirs (2 * k + 1) ≡ false
-        → differing times places others theirs weights k ≡ differing times places others theirs weights (k + 1)
+    pub differing-skip : (k : ℕ) → apart counts first-block others theirs (bit Precommit k) ≡ false
+        → differing counts first-block others theirs weights k ≡ differing counts first-block others theirs weights (k + 1)
     unfolding differing
     differing-skip k e =
-        omega (arith, sum-more k (λ p. cond (apart times places others theirs (2 * p + 1)) (getD weights p 0) 0), ap (λ (b : Bool). cond b (getD weights k 0) 0) e)
+        omega (arith, sum-more k (λ p. cond (apart counts first-block others theirs (bit Precommit p)) (getD weights p 0) 0), ap (λ (b : Bool). cond b (getD weights k 0) 0) e)
 
-    pub differing-more : (k : ℕ) → apart times places others theirs (2 * k + 1) ≡ true
-        → plus (differing times places others theirs weights k) (getD weights k 0) ≡ differing times places others theirs weights (k + 1)
+    pub differing-more : (k : ℕ) → apart counts first-block others theirs (bit Precommit k) ≡ true
+        → plus (differing counts first-block others theirs weights k) (getD weights k 0) ≡ differing counts first-block others theirs weights (k + 1)
     unfolding differing
     differing-more k e =
-        omega (arith, sum-more k (λ p. cond (apart times places others theirs (2 * p + 1)) (getD weights p 0) 0), ap (λ (b : Bool). cond b (getD weights k 0) 0) e)
+        omega (arith, sum-more k (λ p. cond (apart counts first-block others theirs (bit Precommit p)) (getD weights p 0) 0), ap (λ (b : Bool). cond b (getD weights k 0) 0) e)
 
 -- the comparison of two columns
 module _ (xs ys : List ℕ) where

@@ -3,7 +3,7 @@
 -- The tables are one and its ids are distinct, so that targets differ in id where they differ in place.
 use mathlib.Core.Bool.{Bool, cond, _&&_}
 use mathlib.Core.List.{List}
-use Prim.Native.Nat.{ℕ, _+_, _*_, min}
+use Prim.Native.Nat.{ℕ, min}
 use lib.Dec.{eqb}
 use lib.ListN.{length, getD}
 use Rattle.loops.specs.All.{all}
@@ -24,12 +24,12 @@ use Rattle.two_views.specs.declared.Views.the-variants.{Weight, Refused}
 
 -- the voter of an index counts: an equivocation in either view, or targets that differ
 unfoldable pub apart : List ℕ → List ℕ → List ℕ → List ℕ → ℕ → Bool
-apart times places others theirs j = differ (cast-of (col times j) (col places j)) (cast-of (col others j) (col theirs j))
+apart counts first-block others theirs j = differ (cast-of (col counts j) (col first-block j)) (cast-of (col others j) (col theirs j))
 
 -- the same in weight, over the precommits of so many voters; weights add with saturation
 unfoldable pub differing : List ℕ → List ℕ → List ℕ → List ℕ → List ℕ → ℕ → ℕ
-differing times places others theirs weights size =
-    min (weigh size (λ p. apart times places others theirs (2 * p + 1)) (λ p. getD weights p 0)) most
+differing counts first-block others theirs weights size =
+    min (weigh size (λ p. apart counts first-block others theirs (bit Precommit p)) (λ p. getD weights p 0)) most
 
 -- two columns are one
 unfoldable pub same : List ℕ → List ℕ → Bool

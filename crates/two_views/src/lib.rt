@@ -2,9 +2,13 @@
 // between them.
 ghost use mathlib.Core.Path.{_≡_};
 ghost use Prim.Native.Nat.{_≤_, _<_};
+ghost use Rattle.sizes.specs.Sizes.{VOTERS, VOTES};
 ghost use Rattle.two_views.specs.Views.{apart, differing, same, same-voters, same-table, agree, views};
 use blocks::BlockTable;
+use context::Phase;
 use round::Round;
+use sizes::VOTERS;
+use sizes::VOTES;
 use voter_set::VoterSet;
 use weights::VoteWeight;
 
@@ -17,46 +21,47 @@ pub enum Views {
 // Whether the voter of an index counts: it equivocated in either view, or it has a vote in both and their targets differ. One vote in one
 // view and silence in the other is no evidence.
 fn differs<'a>(
-    times: &'a [u8; 128],
-    places: &'a [u8; 128],
-    others: &'a [u8; 128],
-    theirs: &'a [u8; 128],
+    counts: &'a [u8; VOTES],
+    first_block: &'a [u8; VOTES],
+    others: &'a [u8; VOTES],
+    theirs: &'a [u8; VOTES],
     at: usize,
 ) -> bool
-    requires { ⌜ at < 128 ⌝ }
-    ensures { λ r. ⌜ r ≡ apart (now (times .entry)) (now (places .entry)) (now (others .entry)) (now (theirs .entry)) at ⌝ }
+    requires { ⌜ at < VOTES ⌝ }
+    ensures { λ r. ⌜ r ≡ apart (now (counts .entry)) (now («first_block» .entry)) (now (others .entry)) (now (theirs .entry)) at ⌝ }
 {
-    if times[at] > 1 {
+    if counts[at] > 1 {
         return true;
     }
     if others[at] > 1 {
         return true;
     }
-    if times[at] == 0 {
+    if counts[at] == 0 {
         return false;
     }
     if others[at] == 0 {
         return false;
     }
-    places[at] != theirs[at]
+    first_block[at] != theirs[at]
 }
 
-// The weight of the voters whose precommits differ so, each once, on lent columns; `others` and `theirs` are the times and places of the
-// other view. A voter's precommits stand at twice its place and one.
+// The weight of the voters whose precommits differ so, each once, on lent columns; `others` and `theirs` are the counts and first blocks of the
+// other view.
 pub fn differing<'a>(
-    times: &'a [u8; 128],
-    places: &'a [u8; 128],
-    others: &'a [u8; 128],
-    theirs: &'a [u8; 128],
-    weights: &'a [u64; 64],
+    counts: &'a [u8; VOTES],
+    first_block: &'a [u8; VOTES],
+    others: &'a [u8; VOTES],
+    theirs: &'a [u8; VOTES],
+    weights: &'a [u64; VOTERS],
     size: usize,
 ) -> u64
-    requires { ⌜ size ≤ 64 ⌝ }
-    ensures { λ r. ⌜ r ≡ differing (now (times .entry)) (now (places .entry)) (now (others .entry)) (now (theirs .entry)) (now (weights .entry)) size ⌝ }
+    requires { ⌜ size ≤ VOTERS ⌝ }
+    ensures { λ r. ⌜ r ≡ differing (now (counts .entry)) (now («first_block» .entry)) (now (others .entry)) (now (theirs .entry)) (now (weights .entry)) size ⌝ }
 {
     let mut sum = 0;
     for voter in 0..size {
-        if !differs(times, places, others, theirs, 2 * voter + 1) {
+        let at = context::index(voter, Phase::Precommit);
+        if !differs(counts, first_block, others, theirs, at) {
             continue;
         }
         let more = VoteWeight(sum).add(VoteWeight(weights[voter]));
@@ -183,10 +188,10 @@ pub fn two_views(one: Round, other: Round) -> Views
     let votes = one.votes;
     let other_votes = other.votes;
     Views::Weight(differing(
-        &votes.times,
-        &votes.places,
-        &other_votes.times,
-        &other_votes.places,
+        &votes.counts,
+        &votes.first_block,
+        &other_votes.counts,
+        &other_votes.first_block,
         &voters.weights,
         voters.count,
     ))

@@ -10,6 +10,7 @@ use lib.Dec.{T, eqb, ltb, eqb→eq, ltb→lt}
 use lib.ListN.{getD, length, replicate, List·getD-eq-default}
 use lib.Seq.{ext-getD}
 use borrow.Author.Tests.{eq-eqb, ne-eqb, lt-ltb, le-ltb}
+use Rattle.sizes.specs.Sizes.{WORDS, VOTES}
 use Rattle.loops.specs.All.{all}
 use Rattle.loops.proofs.Tests.{T-true, true-T, false-not, same-test, and-false, or-false}
 use Rattle.loops.proofs.Alls.{all-at, all-intro, all-cong}
@@ -28,16 +29,16 @@ pub beq-refl : (a : Bool) → T (Bool·beq a a)
 beq-refl true = tt
 beq-refl false = tt
 
-pub fits-two : (a : List ℕ) → length a ≡ 2 → getD a 0 0 < 2 ^ 64 → getD a 1 0 < 2 ^ 64 → Fits a
+pub fits-two : (a : List ℕ) → length a ≡ WORDS → getD a 0 0 < 2 ^ 64 → getD a 1 0 < 2 ^ 64 → Fits a
 fits-two a s h k zero = h
 fits-two a s h k (suc zero) = k
 fits-two a s h k (suc (suc i)) =
     let z : getD a (suc (suc i)) 0 ≡ 0 = List·getD-eq-default a 0 (omega arith) in
     rw z (omega arith)
 
-module _ (a b : List ℕ) (sa : length a ≡ 2) (sb : length b ≡ 2) where
+module _ (a b : List ℕ) (sa : length a ≡ WORDS) (sb : length b ≡ WORDS) where
   same-eq : Fits a → Fits b → T (same-bits a (has b)) → a ≡ b
-  same-eq fa fb t = set-ext a b (sa ∙ sym sb) fa fb (λ c h. beq-eq (has a c) (has b c) (all-at _ 128 t c (omega (arith, sa))))
+  same-eq fa fb t = set-ext a b (sa ∙ sym sb) fa fb (λ c h. beq-eq (has a c) (has b c) (all-at _ VOTES t c (omega (arith, sa))))
 
   pub other-words : Fits a → Fits b → getD a 0 0 ≢ getD b 0 0 → false ≡ same-bits a (has b)
   other-words fa fb n =
@@ -46,7 +47,7 @@ module _ (a b : List ℕ) (sa : length a ≡ 2) (sb : length b ≡ 2) where
   pub same-words : Fits a → Fits b → getD a 0 0 ≡ getD b 0 0 → eqb (getD a 1 0) (getD b 1 0) ≡ same-bits a (has b)
   same-words fa fb e =
       same-test (eqb (getD a 1 0) (getD b 1 0)) (same-bits a (has b))
-      (λ t. subst (λ (ws : List ℕ). T (same-bits a (has ws))) (whole (eqb→eq (getD a 1 0) (getD b 1 0) t)) (all-intro _ 128 (λ j h. beq-refl (has a j))))
+      (λ t. subst (λ (ws : List ℕ). T (same-bits a (has ws))) (whole (eqb→eq (getD a 1 0) (getD b 1 0) t)) (all-intro _ VOTES (λ j h. beq-refl (has a j))))
       (λ t. T-true (eq-eqb (getD a 1 0) (getD b 1 0) (ap (λ (ws : List ℕ). getD ws 1 0) (same-eq fa fb t))))
     where
       whole : getD a 1 0 ≡ getD b 1 0 → a ≡ b
@@ -89,17 +90,17 @@ module _ (p : ℕ → Bool) where
 
 -- two words whose bits are the indices before k that pass
 pub record Put (bits : List ℕ) (p : ℕ → Bool) (k : ℕ) : Type 0 where
-  pub sized : length bits ≡ 2
+  pub sized : length bits ≡ WORDS
   pub says : (i : ℕ) → has bits i ≡ upto p k i
 
 module _ (p : ℕ → Bool) where
-  pub put-none : Put (replicate 2 0) p 0
-  put-none = record { sized = refl; says = λ i. has-none 2 i ∙ sym (upto-none p i) }
+  pub put-none : Put (replicate WORDS 0) p 0
+  put-none = record { sized = refl; says = λ i. has-none WORDS i ∙ sym (upto-none p i) }
 
   pub put-skip : (bits : List ℕ) (k : ℕ) → p k ≡ false → Put bits p k → Put bits p (k + 1)
   put-skip bits k q b = record { sized = b .sized; says = λ i. b .says i ∙ upto-skip p k i q }
 
-  pub put-next : (bits more : List ℕ) (k : ℕ) → k < 128 → p k ≡ true → more ≡ put bits k → Put bits p k → Put more p (k + 1)
+  pub put-next : (bits more : List ℕ) (k : ℕ) → k < VOTES → p k ≡ true → more ≡ put bits k → Put bits p k → Put more p (k + 1)
   put-next bits more k h q e b =
       rw e
       (record {
@@ -108,7 +109,7 @@ module _ (p : ℕ → Bool) where
             has-put bits k i (omega (arith, b .sized)) ∙ ap (λ (z : Bool). z || eqb i k) (b .says i) ∙ upto-put p k i q;
       })
 
-  pub put-all : (other bits : List ℕ) (k : ℕ) → 128 ≤ k → Put bits p k → same-bits other (has bits) ≡ same-bits other p
+  pub put-all : (other bits : List ℕ) (k : ℕ) → VOTES ≤ k → Put bits p k → same-bits other (has bits) ≡ same-bits other p
   put-all other bits k h b =
-      all-cong 128 (λ j. Bool·beq (has other j) (has bits j)) (λ j. Bool·beq (has other j) (p j))
+      all-cong VOTES (λ j. Bool·beq (has other j) (has bits j)) (λ j. Bool·beq (has other j) (p j))
       (λ j l. ap (Bool·beq (has other j)) (b .says j ∙ upto-all p k j (omega arith)))

@@ -8,6 +8,7 @@ use native.Mathlib.Omega.{arith}
 use lib.Dec.{T, eqb, T-not}
 use lib.ListN.{getD, replicate, getD-replicate}
 use borrow.Author.Tests.{eq-eqb, ne-eqb}
+use Rattle.sizes.specs.Sizes.{BLOCKS}
 use Rattle.loops.proofs.Tests.{T-true, T-false, false-T, true-T, in-right, in-left}
 use Rattle.loops.specs.Listing.{front}
 use Rattle.grandpa.specs.Tree.{below}
@@ -32,9 +33,9 @@ pub clear-opened : (base : ℕ) → Clear base (opened base)
 unfolding opened
 clear-opened base =
     record {
-      base-above = blank {A = ℕ} 0 256 base;
-      bare-above = λ k n. blank {A = ℕ} 0 256 k;
-      bare-rows = λ k h n. getD-replicate 256 k no-bits [] h;
+      base-above = blank {A = ℕ} 0 BLOCKS base;
+      bare-above = λ k n. blank {A = ℕ} 0 BLOCKS k;
+      bare-rows = λ k h n. getD-replicate BLOCKS k no-bits [] h;
     }
 
 module _ (parents ids : List ℕ) (base count t : ℕ) (in-base : T (below (col parents) base t)) (in-table : t < count) where

@@ -2,88 +2,57 @@
 use mathlib.Core.Bool.{Bool, true, false}
 use mathlib.Core.List.{List}
 use mathlib.Core.Path.{_≡_, sym, ap, subst, _∙_}
-use Prim.Native.Nat.{ℕ, _≤_}
-use native.Mathlib.Omega.{arith}
+use Prim.Native.Nat.{ℕ}
 use lib.Dec.{T, eqb, eqb→eq}
 use lib.ListN.{length}
 use borrow.Author.Tests.{eq-eqb}
+use Rattle.sizes.specs.Sizes.{WORDS, BLOCKS}
 use Rattle.loops.specs.All.{all}
-use Rattle.loops.specs.Listing.{front}
 use Rattle.loops.proofs.Tests.{T-true, true-T, both, left-of, right-of}
 use Rattle.loops.proofs.Alls.{all-at, all-intro}
-use Rattle.loops.proofs.Listings.{length-front}
-use Rattle.columns.specs.Lists.{padded}
-use Rattle.columns.proofs.Padded.{length-padded}
 use Rattle.blocks.specs.declared.BlockTable.{BlockTable}
 use Rattle.block_shape.specs.Shape.{tabled, Shaped}
 use Rattle.block_shape.proofs.Shapes.{tabled-shaped}
 use Rattle.nodes.specs.Nodes.{row, Falls}
-use Rattle.nodes.specs.Columns.{Columns, Sound}
-use Rattle.graph_shape.specs.Graphed.{graphed, Sized, Clear}
+use Rattle.nodes.specs.Columns.{Columns, Sized, Sound}
+use Rattle.vote_insert.specs.Insert.{with-rows}
+use Rattle.graph_shape.specs.Graphed.{graphed, Clear}
 use Rattle.graph_shape.proofs.Graphs.{graphed-means, means-graphed}
 use Rattle.graph_rows.specs.Rows.{words-of, Paired}
 use Rattle.graph_rows.proofs.Copies.{words-rows}
 use Rattle.vote_graph.specs.declared.VoteGraph.{VoteGraph}
-use Rattle.vote_graph.specs.Shape.{columns, graph-of, sized, is-graph}
-
--- columns with other words, as the code lends them
-abbrev pub lent : VoteGraph → List (List ℕ) → Columns
-lent g w = record { used = g .used; above = g .above; rows = w; order = g .order; listed = g .listed; heads = g .heads; tips = g .tips }
+use Rattle.vote_graph.specs.Shape.{lent, columns, graph-of, sized, is-graph}
 
 -- a graph goes into columns and comes back
 pub columns-of : (base : ℕ) (c : Columns) → columns (graph-of base c) ≡ c
-columns-of base c =
-    λ i. record {
-      used = c .used;
-      above = c .above;
-      rows = words-rows (c .rows) i;
-      order = c .order;
-      listed = c .listed;
-      heads = c .heads;
-      tips = c .tips;
-    }
+columns-of base c = ap (with-rows c) (words-rows (c .rows))
 
 module _ (c : Columns) where
   pub sized-says : T (sized c) → Sized c
   unfolding sized
   sized-says t =
-      let a = right-of (eqb (length (c .used)) 256) _ t in
-      let b = right-of (eqb (length (c .above)) 256) _ a in
-      let d = right-of (eqb (length (c .rows)) 256) _ b in
-      let e = right-of (all 256 (λ k. eqb (length (row (c .rows) k)) 2)) _ d in
+      let a = right-of (eqb (length (c .used)) BLOCKS) _ t in
+      let b = right-of (eqb (length (c .above)) BLOCKS) _ a in
+      let d = right-of (eqb (length (c .rows)) BLOCKS) _ b in
+      let e = right-of (all BLOCKS (λ k. eqb (length (row (c .rows) k)) WORDS)) _ d in
       record {
-        used-size = eqb→eq _ _ (left-of (eqb (length (c .used)) 256) _ t);
-        above-size = eqb→eq _ _ (left-of (eqb (length (c .above)) 256) _ a);
-        rows-size = eqb→eq _ _ (left-of (eqb (length (c .rows)) 256) _ b);
-        row-size = λ x h. eqb→eq _ _ (all-at (λ k. eqb (length (row (c .rows) k)) 2) 256 (left-of (all 256 (λ k. eqb (length (row (c .rows) k)) 2)) _ d) x h);
-        order-size = eqb→eq _ _ (left-of (eqb (length (c .order)) 256) _ e);
-        heads-size = eqb→eq _ _ (right-of (eqb (length (c .order)) 256) _ e);
+        used-size = eqb→eq _ _ (left-of (eqb (length (c .used)) BLOCKS) _ t);
+        above-size = eqb→eq _ _ (left-of (eqb (length (c .above)) BLOCKS) _ a);
+        rows-size = eqb→eq _ _ (left-of (eqb (length (c .rows)) BLOCKS) _ b);
+        row-size = λ x h. eqb→eq _ _ (all-at (λ k. eqb (length (row (c .rows) k)) WORDS) BLOCKS (left-of (all BLOCKS (λ k. eqb (length (row (c .rows) k)) WORDS)) _ d) x h);
+        order-size = eqb→eq _ _ (left-of (eqb (length (c .order)) BLOCKS) _ e);
+        heads-size = eqb→eq _ _ (right-of (eqb (length (c .order)) BLOCKS) _ e);
       }
 
   pub says-sized : Sized c → T (sized c)
   unfolding sized
   says-sized s =
-      both (eqb (length (c .used)) 256) _ (T-true (eq-eqb _ _ (s .used-size)))
-      (both (eqb (length (c .above)) 256) _ (T-true (eq-eqb _ _ (s .above-size)))
-      (both (eqb (length (c .rows)) 256) _ (T-true (eq-eqb _ _ (s .rows-size)))
-      (both (all 256 (λ k. eqb (length (row (c .rows) k)) 2)) _
-      (all-intro (λ k. eqb (length (row (c .rows) k)) 2) 256 (λ k h. T-true (eq-eqb _ _ (s .row-size k h))))
-      (both (eqb (length (c .order)) 256) _ (T-true (eq-eqb _ _ (s .order-size))) (T-true (eq-eqb _ _ (s .heads-size)))))))
-
--- sound columns have their sizes
-padded-size : (xs : List ℕ) (n : ℕ) → n ≤ 256 → xs ≡ padded 256 (front n xs) → length xs ≡ 256
-padded-size xs n h e = ap length e ∙ length-padded 256 (front n xs) (omega (arith, length-front n xs))
-
-pub sound-sized : (parents ids : List ℕ) (base count : ℕ) (c : Columns) → Sound parents ids base count c → Sized c
-sound-sized parents ids base count c s =
-    record {
-      used-size = s .used-size;
-      above-size = s .above-size;
-      rows-size = s .rows-size;
-      row-size = s .row-size;
-      order-size = padded-size (c .order) (c .listed) (s .listed-fits) (s .order-clear);
-      heads-size = padded-size (c .heads) (c .tips) (s .tips-fit) (s .heads-clear);
-    }
+      both (eqb (length (c .used)) BLOCKS) _ (T-true (eq-eqb _ _ (s .used-size)))
+      (both (eqb (length (c .above)) BLOCKS) _ (T-true (eq-eqb _ _ (s .above-size)))
+      (both (eqb (length (c .rows)) BLOCKS) _ (T-true (eq-eqb _ _ (s .rows-size)))
+      (both (all BLOCKS (λ k. eqb (length (row (c .rows) k)) WORDS)) _
+      (all-intro (λ k. eqb (length (row (c .rows) k)) WORDS) BLOCKS (λ k h. T-true (eq-eqb _ _ (s .row-size k h))))
+      (both (eqb (length (c .order)) BLOCKS) _ (T-true (eq-eqb _ _ (s .order-size))) (T-true (eq-eqb _ _ (s .heads-size)))))))
 
 -- a graph that keeps its shape on a table that does
 pub record Kept (g : VoteGraph) (t : BlockTable) : Type 0 where
@@ -109,7 +78,7 @@ module _ (g : VoteGraph) (t : BlockTable) where
   unfolding is-graph
   means-is-graph a s c =
       both (tabled t) _ a
-      (both (sized (columns g)) _ (says-sized (columns g) (sound-sized (t .parents) (t .ids) (g .base) (t .count) (columns g) s))
+      (both (sized (columns g)) _ (says-sized (columns g) (s .sized))
       (T-true (means-graphed (t .parents) (t .ids) (g .base) (t .count) (columns g) s c)))
 
   -- the test in code: the table's, and then the graph's on its words

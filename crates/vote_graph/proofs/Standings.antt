@@ -7,6 +7,7 @@ use Prim.Native.Nat.{ℕ, _≤_, _<_}
 use native.Mathlib.Omega.{arith}
 use lib.Dec.{T, ltb, ltb→lt}
 use lib.ListN.{length}
+use Rattle.sizes.specs.Sizes.{BLOCKS}
 use Rattle.loops.proofs.Tests.{T-true}
 use Rattle.grandpa.specs.Tree.{below}
 use Rattle.grandpa.proofs.Trees.{below-refl}
@@ -32,10 +33,10 @@ use Rattle.vote_search.proofs.Ancestors.{tallied-is}
 use Rattle.vote_graph.specs.declared.VoteGraph.{VoteGraph}
 use Rattle.vote_graph.specs.declared.named.Target.{Target}
 use Rattle.vote_graph.specs.declared.named.Target.the-variants.{At, Refused}
-use Rattle.vote_graph.specs.Shape.{columns, graph-of, is-graph, Standing}
+use Rattle.vote_graph.specs.Shape.{lent, columns, graph-with, graph-of, is-graph, Standing}
 use Rattle.vote_graph.specs.Target.{in-base, target, start, on-target}
 use Rattle.vote_graph.specs.Calls.{voted, tally-of, ancestor-of, ghost-of}
-use Rattle.vote_graph.proofs.Shapes.{lent, Kept, is-graph-means}
+use Rattle.vote_graph.proofs.Shapes.{Kept, is-graph-means}
 
 at-most-one : {n k : ℕ} → _≡_ {A = Target} (Refused n) (At k) → ⊥
 at-most-one e = let z : _≡_ {A = ℕ} 0 1 = cc in omega arith
@@ -58,7 +59,7 @@ module _ (g : VoteGraph) (t : BlockTable) (h : is-graph g t ≡ true) where
   pub gate-falls : Falls (t .parents)
   gate-falls = kept .table .tree .falls
 
-  pub gate-few : t .count ≤ 256
+  pub gate-few : t .count ≤ BLOCKS
   gate-few = kept .table .few
 
   stands-in : (j k : ℕ) → j < t .count → in-base (t .parents) (g .base) j ≡ At k → Standing g t k
@@ -109,24 +110,23 @@ module _ (g : VoteGraph) (t : BlockTable) (k : ℕ) (s : Standing g t k) (w : Li
   pub standing-insertable : Insertable (t .parents) (t .ids) k (lent g w)
   standing-insertable = insertable (t .parents) (t .ids) (g .base) (t .count) k (s .in-base) (s .inside) (lent g w) sound-lent (apart-in g t k s)
 
-  pub standing-rows : (bit : ℕ) (n : Columns) → n ≡ inserted (t .parents) (t .ids) (g .base) k bit (lent g w) → length (n .rows) ≡ 256
+  pub standing-rows : (bit : ℕ) (n : Columns) → n ≡ inserted (t .parents) (t .ids) (g .base) k bit (lent g w) → length (n .rows) ≡ BLOCKS
   standing-rows bit n q =
       ap (λ (c : Columns). length (c .rows)) q
-      ∙ sound-inserted (t .parents) (t .ids) (g .base) (t .count) k (s .in-base) (s .inside) (lent g w) sound-lent (apart-in g t k s) bit .rows-size
+      ∙ sound-inserted (t .parents) (t .ids) (g .base) (t .count) k (s .in-base) (s .inside) (lent g w) sound-lent (apart-in g t k s) bit .sized .rows-size
 
   pub standing-stands : Stands (t .parents) (g .base) (lent g w) k
   standing-stands = record { ids = t .ids; count = t .count; sound = sound-lent; in-base = s .in-base }
 
-  pub standing-tally : Falls (t .parents) × Falls (g .above) × (g .tips ≤ 256)
+  pub standing-tally : Falls (t .parents) × Falls (g .above) × (g .tips ≤ BLOCKS)
   standing-tally = (sound-lent .parents-fall, sound-lent .above-falls, sound-lent .tips-fit)
 
 module _ (g : VoteGraph) (t : BlockTable) (k : ℕ) (w : List (List ℕ)) (e : w ≡ words-of (g .rows)) where
   pub voted-is : (bit : ℕ) (n : Columns) → n ≡ inserted (t .parents) (t .ids) (g .base) k bit (lent g w) → (rs : List Row) → rs ≡ rows-of (n .rows)
-      → _≡_ {A = VoteGraph} (record { base = g .base; used = n .used; above = n .above; rows = rs; order = n .order; listed = n .listed; heads = n .heads; tips = n .tips })
-      (voted g t k bit)
+      → graph-with (g .base) n rs ≡ voted g t k bit
   unfolding voted
   voted-is bit n q rs r =
-      ap (λ (v : List Row). record { base = g .base; used = n .used; above = n .above; rows = v; order = n .order; listed = n .listed; heads = n .heads; tips = n .tips }) r
+      ap (graph-with (g .base) n) r
       ∙ ap (graph-of (g .base)) q
       ∙ ap (λ (v : List (List ℕ)). graph-of (g .base) (inserted (t .parents) (t .ids) (g .base) k bit (lent g v))) e
 

@@ -9,6 +9,9 @@ use blocks::Place;
 use graph_rows::Row;
 use nodes::Found;
 use nodes::Question;
+use sizes::BLOCKS;
+use sizes::VOTERS;
+use sizes::WORDS;
 use vote_search::Tally;
 
 // Where a block stands that a call names, or why it is refused.
@@ -21,12 +24,12 @@ use named::Target;
 // be lent: a graph of anyone's making can be handed in, and `is_graph` tells it from one that was built by calls.
 pub struct VoteGraph {
     pub base: u8,
-    pub used: [bool; 256],
-    pub above: [u8; 256],
-    pub rows: [Row; 256],
-    pub order: [u8; 256],
+    pub used: [bool; BLOCKS],
+    pub above: [u8; BLOCKS],
+    pub rows: [Row; BLOCKS],
+    pub order: [u8; BLOCKS],
     pub listed: usize,
-    pub heads: [u8; 256],
+    pub heads: [u8; BLOCKS],
     pub tips: usize,
 }
 
@@ -52,7 +55,7 @@ pub enum Votes {
 // Who voted at or below a block; no one, where it is not in the graph.
 pub struct Cumulative {
     pub answer: Votes,
-    pub bits: [u64; 2],
+    pub bits: [u64; WORDS],
 }
 
 // A block that was looked for.
@@ -67,19 +70,21 @@ impl VoteGraph {
     pub fn new(base: u8) -> VoteGraph
         ensures { λ r. ⌜ r ≡ graph-of base (opened base) ⌝ }
     {
-        let mut used = [false; 256];
-        let none = Row { bits: [0u64; 2] };
-        let rows = [none; 256];
-        let mut heads = [0u8; 256];
+        let mut used = [false; BLOCKS];
+        let none = Row {
+            bits: [0u64; WORDS],
+        };
+        let rows = [none; BLOCKS];
+        let mut heads = [0u8; BLOCKS];
         let at = climbs::wide(base);
         used[at] = true;
         heads[0] = base;
         VoteGraph {
             base,
             used,
-            above: [0u8; 256],
+            above: [0u8; BLOCKS],
             rows,
-            order: [0u8; 256],
+            order: [0u8; BLOCKS],
             listed: 0,
             heads,
             tips: 1,
@@ -187,19 +192,19 @@ impl VoteGraph {
         if !self.is_graph(table) {
             return Cumulative {
                 answer: Votes::Refused(9),
-                bits: [0u64; 2],
+                bits: [0u64; WORDS],
             };
         }
         let Place::At(place) = blocks::find(&table.ids, table.count, block) else {
             return Cumulative {
                 answer: Votes::Refused(11),
-                bits: [0u64; 2],
+                bits: [0u64; WORDS],
             };
         };
         if !climbs::reaches(&table.parents, self.base, place) {
             return Cumulative {
                 answer: Votes::Outside,
-                bits: [0u64; 2],
+                bits: [0u64; WORDS],
             };
         }
         let tally = self.tally(table, place);
@@ -229,7 +234,7 @@ impl VoteGraph {
     pub fn find_ancestor(
         self,
         table: BlockTable,
-        weights: &[u64; 64],
+        weights: &[u64; VOTERS],
         question: Question,
         block: u32,
     ) -> Sought
@@ -250,7 +255,7 @@ impl VoteGraph {
     fn ancestor(
         self,
         table: BlockTable,
-        weights: &[u64; 64],
+        weights: &[u64; VOTERS],
         question: Question,
         place: u8,
     ) -> Found
@@ -278,7 +283,7 @@ impl VoteGraph {
     pub fn find_ghost(
         self,
         table: BlockTable,
-        weights: &[u64; 64],
+        weights: &[u64; VOTERS],
         question: Question,
         start: Found,
     ) -> Sought
@@ -299,7 +304,7 @@ impl VoteGraph {
     fn heaviest(
         self,
         table: BlockTable,
-        weights: &[u64; 64],
+        weights: &[u64; VOTERS],
         question: Question,
         place: u8,
     ) -> Found

@@ -1,10 +1,12 @@
 // Where a block stands that a call names, on lent columns of a table that keeps its shape.
 ghost use mathlib.Core.Path.{_≡_};
 ghost use Prim.Native.Nat.{_≤_};
+ghost use Rattle.sizes.specs.Sizes.{BLOCKS};
 ghost use Rattle.nodes.specs.Nodes.{Falls};
 ghost use Rattle.vote_graph.specs.Target.{in-base, target, start};
 use blocks::Place;
 use nodes::Found;
+use sizes::BLOCKS;
 
 // A place at or below the base, or the number of the refusal.
 pub enum Target {
@@ -14,13 +16,13 @@ pub enum Target {
 
 // The block with an id.
 pub fn of<'a>(
-    ids: &'a [u32; 256],
-    parents: &'a [u8; 256],
+    ids: &'a [u32; BLOCKS],
+    parents: &'a [u8; BLOCKS],
     count: usize,
     base: u8,
     block: u32,
 ) -> Target
-    requires { ⌜ (Falls (now parents)) × (count ≤ 256) ⌝ }
+    requires { ⌜ (Falls (now parents)) × (count ≤ BLOCKS) ⌝ }
     ensures { λ r. ⌜ r ≡ target (now (ids .entry)) (now (parents .entry)) count base block ⌝ }
 {
     let Place::At(place) = blocks::find(ids, count, block) else {
@@ -30,7 +32,7 @@ pub fn of<'a>(
 }
 
 // The block at a place, or the base where none is named.
-pub fn start(parents: &[u8; 256], count: usize, base: u8, from: Found) -> Target
+pub fn start(parents: &[u8; BLOCKS], count: usize, base: u8, from: Found) -> Target
     requires { ⌜ Falls (now parents) ⌝ }
     ensures { λ r. ⌜ r ≡ start (now (parents .entry)) count base from ⌝ }
 {
@@ -43,7 +45,7 @@ pub fn start(parents: &[u8; 256], count: usize, base: u8, from: Found) -> Target
     in_base(parents, base, place)
 }
 
-fn in_base(parents: &[u8; 256], base: u8, place: u8) -> Target
+fn in_base(parents: &[u8; BLOCKS], base: u8, place: u8) -> Target
     requires { ⌜ Falls (now parents) ⌝ }
     ensures { λ r. ⌜ r ≡ in-base (now (parents .entry)) base place ⌝ }
 {

@@ -5,6 +5,7 @@ use mathlib.Core.Path.{_≡_, refl, sym, ap, _∙_}
 use Prim.Native.Nat.{ℕ, _≤_, _<_}
 use native.Mathlib.Omega.{arith}
 use lib.ListN.{set, length}
+use Rattle.sizes.specs.Sizes.{BLOCKS}
 use Rattle.loops.specs.Listing.{front}
 use Rattle.loops.proofs.Listings.{length-front}
 use Rattle.columns.specs.Lists.{padded}
@@ -44,17 +45,17 @@ module _ (parents ids : List ℕ) (t : ℕ) (g : Columns) (room : Addable parent
   abbrev over : ℕ
   over = nearest (col parents) (flag (g .used)) (col parents t)
 
-  list-fits : length (relist t ms (front (g .listed) (g .order))) ≤ 256
+  list-fits : length (relist t ms (front (g .listed) (g .order))) ≤ BLOCKS
   unfolding added
   list-fits = room .list-fits
 
-  pub few : m .count ≤ 256
+  pub few : m .count ≤ BLOCKS
   few = omega (arith, placed-count m ms em, list-fits, length-relist (front (g .listed) (g .order)) ms t)
 
-  pub list-room : (g .listed ≤ 256) × (m .count ≤ 256) × (length (relist t (listing m) (front (g .listed) (g .order))) ≤ 256)
+  pub list-room : (g .listed ≤ BLOCKS) × (m .count ≤ BLOCKS) × (length (relist t (listing m) (front (g .listed) (g .order))) ≤ BLOCKS)
   list-room = (room .listed-fits, few, rw is list-fits)
 
-  pub heads-room : m .count ≤ 0 → (a : ℕ) → a ≡ over → (g .tips ≤ 256) × (length (without a (front (g .tips) (g .heads))) < 256)
+  pub heads-room : m .count ≤ 0 → (a : ℕ) → a ≡ over → (g .tips ≤ BLOCKS) × (length (without a (front (g .tips) (g .heads))) < BLOCKS)
   unfolding added
   heads-room none a e = (
     room .tips-fit,
@@ -84,7 +85,7 @@ module _ (parents ids : List ℕ) (t : ℕ) (g : Columns) (room : Addable parent
         (ap (λ (x : ℕ). set (g .used) x true) ek)
         (rw (ek, es, is, is-over))
         (rw (ek, eb, is))
-        (ap (λ (p : Places). p .places) el ∙ ap (λ (l : List ℕ). padded 256 (relist t l (front (g .listed) (g .order)))) is)
+        (ap (λ (p : Places). p .places) el ∙ ap (λ (l : List ℕ). padded BLOCKS (relist t l (front (g .listed) (g .order)))) is)
         (ap (λ (p : Places). p .count) el ∙ ap (λ (l : List ℕ). length (relist t l (front (g .listed) (g .order)))) is)
         eh et
 

@@ -10,10 +10,12 @@ use lib.Dec.{T, eqb, eqb→eq, T-not}
 use lib.ListN.{set, length, length-set}
 use lib.Seq.{getD-set-same, getD-set-other}
 use borrow.Author.Tests.{eq-eqb, ne-eqb}
+use Rattle.sizes.specs.Sizes.{WORDS, BLOCKS}
 use Rattle.loops.specs.Listing.{times, keep, fold, front}
 use Rattle.loops.proofs.Tests.{T-true, T-false, or-false, by-test, either}
 use Rattle.loops.proofs.Listings.{times-here, times-past, times-none, times-keep, kept-in, length-front}
 use Rattle.columns.specs.Lists.{padded}
+use Rattle.columns.proofs.Padded.{length-padded}
 use Rattle.grandpa.specs.Tree.{below}
 use Rattle.grandpa.proofs.Trees.{below-le, below-step}
 use Rattle.bitfield.specs.Bits.{put}
@@ -98,16 +100,16 @@ module _ (x : ℕ) where
   length-set-all [] xs = refl
   length-set-all (m ∷ ms) xs = length-set-all ms (set xs m x) ∙ simp length-set
 
-clear : (l : List ℕ) → padded 256 l ≡ padded 256 (front (length l) (padded 256 l))
-clear l = ap (padded 256) (sym (front-padded l))
+clear : (l : List ℕ) → padded BLOCKS l ≡ padded BLOCKS (front (length l) (padded BLOCKS l))
+clear l = ap (padded BLOCKS) (sym (front-padded BLOCKS l))
 
 -- nodes are as few as the places
-module _ (up ids : ℕ → ℕ) (base count : ℕ) (used : ℕ → Bool) (order heads : List ℕ) (nodes : Nodes up ids base count used order heads) (small : count ≤ 256) where
-  few-listed : length order ≤ 256
-  few-listed = pigeon 256 order (λ x h. let r = nodes .list-only x h in (omega (arith, nodes .tabled x (r .0)), omega (arith, nodes .listed x (r .0) (r .1))))
+module _ (up ids : ℕ → ℕ) (base count : ℕ) (used : ℕ → Bool) (order heads : List ℕ) (nodes : Nodes up ids base count used order heads) (small : count ≤ BLOCKS) where
+  few-listed : length order ≤ BLOCKS
+  few-listed = pigeon BLOCKS order (λ x h. let r = nodes .list-only x h in (omega (arith, nodes .tabled x (r .0)), omega (arith, nodes .listed x (r .0) (r .1))))
 
-  few-heads : length heads ≤ 256
-  few-heads = pigeon 256 heads (λ x h. let r = nodes .head-only x h in (omega (arith, nodes .tabled x (r .0)), omega (arith, nodes .headed x (r .0) (r .1))))
+  few-heads : length heads ≤ BLOCKS
+  few-heads = pigeon BLOCKS heads (λ x h. let r = nodes .head-only x h in (omega (arith, nodes .tabled x (r .0)), omega (arith, nodes .headed x (r .0) (r .1))))
 
 module _ (parents ids : List ℕ) (base count t : ℕ) (in-base : T (below (col parents) base t)) (in-table : t < count) where
   abbrev up : ℕ → ℕ
@@ -133,7 +135,7 @@ module _ (parents ids : List ℕ) (base count t : ℕ) (in-base : T (below (col 
     bare-T : T (not (used t))
     bare-T = T-false bare
 
-    place : t < 256
+    place : t < BLOCKS
     place = omega (arith, sound .small)
 
     ms-is : ms ≡ containing up used heads t
@@ -144,7 +146,7 @@ module _ (parents ids : List ℕ) (base count t : ℕ) (in-base : T (below (col 
       where
         go : Dec (x ≡ t) → flag (set (g .used) t true) x ≡ (used x || eqb x t)
         go (yes e) =
-            rw e (getD-set-same (g .used) t true false (omega (arith, place, sound .used-size)) ∙ sym (ap (λ (b : Bool). used t || b) (eq-eqb t t refl) ∙ or-true (used t)))
+            rw e (getD-set-same (g .used) t true false (omega (arith, place, sound .sized .used-size)) ∙ sym (ap (λ (b : Bool). used t || b) (eq-eqb t t refl) ∙ or-true (used t)))
         go (no n) =
             getD-set-other (g .used) t x true false n ∙ sym (ap (λ (b : Bool). used x || b) (ne-eqb x t n) ∙ or-false (used x))
 
@@ -154,7 +156,7 @@ module _ (parents ids : List ℕ) (base count t : ℕ) (in-base : T (below (col 
         go : Dec (x ≡ t)
             → row (set (g .rows) t (join-of (row (g .rows)) ms)) x ≡ cond (eqb x t) (join-of (row (g .rows)) (containing up used heads t)) (row (g .rows) x)
         go (yes e) =
-            rw (e, eq-eqb t t refl, ← ms-is) (getD-set-same (g .rows) t (join-of (row (g .rows)) ms) [] (omega (arith, place, sound .rows-size)))
+            rw (e, eq-eqb t t refl, ← ms-is) (getD-set-same (g .rows) t (join-of (row (g .rows)) ms) [] (omega (arith, place, sound .sized .rows-size)))
         go (no n) = rw (ne-eqb x t n) (getD-set-other (g .rows) t x (join-of (row (g .rows)) ms) [] n)
 
     pub view-added : view (added parents ids t g) ≡ add-node up (col ids) t (view g)
@@ -163,8 +165,8 @@ module _ (parents ids : List ℕ) (base count t : ℕ) (in-base : T (below (col 
         λ i. record {
           used = λ x. used-is x i;
           bits = λ x. bits-are x i;
-          order = (front-padded (relist t ms order) ∙ ap (λ (l : List ℕ). relist t l order) ms-is) i;
-          heads = (front-padded (rehead (col ids) t ms over heads) ∙ ap (λ (l : List ℕ). rehead (col ids) t l over heads) ms-is) i;
+          order = (front-padded BLOCKS (relist t ms order) ∙ ap (λ (l : List ℕ). relist t l order) ms-is) i;
+          heads = (front-padded BLOCKS (rehead (col ids) t ms over heads) ∙ ap (λ (l : List ℕ). rehead (col ids) t l over heads) ms-is) i;
         }
 
     -- the node above t
@@ -183,10 +185,10 @@ module _ (parents ids : List ℕ) (base count t : ℕ) (in-base : T (below (col 
         omega (arith, containing-has up (col ids) (sound .parents-fall) base count used order heads (sound .nodes) t bare-T x p, subst (λ (l : List ℕ). times x l ≡ 0) ms-is e)
 
     member-small : (x : ℕ) → 0 < times x ms → x < length (g .above)
-    member-small x h = omega (arith, sound .nodes .tabled x (member x h .is-node), sound .small, sound .above-size)
+    member-small x h = omega (arith, sound .nodes .tabled x (member x h .is-node), sound .small, sound .sized .above-size)
 
     above-new : col (set (set-all (g .above) ms t) t over) t ≡ over
-    above-new = getD-set-same (set-all (g .above) ms t) t over 0 (omega (arith, place, length-set-all t ms (g .above), sound .above-size))
+    above-new = getD-set-same (set-all (g .above) ms t) t over 0 (omega (arith, place, length-set-all t ms (g .above), sound .sized .above-size))
 
     above-member : (x : ℕ) → x ≢ t → 0 < times x ms → col (set (set-all (g .above) ms t) t over) x ≡ t
     above-member x n h = getD-set-other (set-all (g .above) ms t) t x over 0 n ∙ set-all-here t x ms (g .above) h (member-small x h)
@@ -230,11 +232,11 @@ module _ (parents ids : List ℕ) (base count t : ℕ) (in-base : T (below (col 
             let h : 0 < times x ms = omega arith in
             above-member x n h ∙ sym (near-member up (col ids) (sound .parents-fall) base count (view g) (sound .nodes) t in-base in-table bare-T x (member x h))
 
-    sizes : (x : ℕ) → x < 256 → length (row (set (g .rows) t (join-of (row (g .rows)) ms)) x) ≡ 2
+    sizes : (x : ℕ) → x < BLOCKS → length (row (set (g .rows) t (join-of (row (g .rows)) ms)) x) ≡ WORDS
     sizes x l =
         ap length (bits-are x)
-        ∙ by-test (λ (v : List ℕ). length v ≡ 2) (eqb x t) (join-of (row (g .rows)) (containing up used heads t)) (row (g .rows) x)
-        (λ e. length-join (row (g .rows)) (containing up used heads t)) (λ e. sound .row-size x l)
+        ∙ by-test (λ (v : List ℕ). length v ≡ WORDS) (eqb x t) (join-of (row (g .rows)) (containing up used heads t)) (row (g .rows) x)
+        (λ e. length-join (row (g .rows)) (containing up used heads t)) (λ e. sound .sized .row-size x l)
 
     module _ (apart : (y : ℕ) → T (used y) → col ids y ≢ col ids t) where
       nodes-after : Nodes up (col ids) base count (view (added parents ids t g) .used) (view (added parents ids t g) .order) (view (added parents ids t g) .heads)
@@ -242,11 +244,11 @@ module _ (parents ids : List ℕ) (base count t : ℕ) (in-base : T (below (col 
           subst (λ (h : Graph). Nodes up (col ids) base count (h .used) (h .order) (h .heads)) (sym view-added)
           (added-nodes up (col ids) (sound .parents-fall) base count (view g) (sound .nodes) t in-base in-table bare-T apart)
 
-      list-fits : added parents ids t g .listed ≤ 256
+      list-fits : added parents ids t g .listed ≤ BLOCKS
       list-fits =
           omega (arith, few-listed up (col ids) base count _ _ _ nodes-after (sound .small), length-front (added parents ids t g .listed) (added parents ids t g .order))
 
-      heads-fit : added parents ids t g .tips ≤ 256
+      heads-fit : added parents ids t g .tips ≤ BLOCKS
       heads-fit =
           omega (arith, few-heads up (col ids) base count _ _ _ nodes-after (sound .small), length-front (added parents ids t g .tips) (added parents ids t g .heads))
 
@@ -261,10 +263,14 @@ module _ (parents ids : List ℕ) (base count t : ℕ) (in-base : T (below (col 
             tied = λ x u d. tied-added x (subst T (used-is x) u) d ∙ ap (λ (f : ℕ → Bool). nearest up f (up x)) (sym (fun-ext used-is));
             listed-fits = list-fits;
             tips-fit = heads-fit;
-            used-size = simp length-set (sound .used-size);
-            above-size = simp length-set (length-set-all t ms (g .above) ∙ sound .above-size);
-            rows-size = simp length-set (sound .rows-size);
-            row-size = sizes;
+            sized = record {
+              used-size = simp length-set (sound .sized .used-size);
+              above-size = simp length-set (length-set-all t ms (g .above) ∙ sound .sized .above-size);
+              rows-size = simp length-set (sound .sized .rows-size);
+              row-size = sizes;
+              order-size = length-padded BLOCKS (relist t ms order) list-fits;
+              heads-size = length-padded BLOCKS (rehead (col ids) t ms over heads) heads-fit;
+            };
             order-clear = clear (relist t ms order);
             heads-clear = clear (rehead (col ids) t ms over heads);
           }
@@ -275,7 +281,7 @@ module _ (parents ids : List ℕ) (base count t : ℕ) (in-base : T (below (col 
         → row (marked (h .above) base j t (h .rows)) x ≡ cond (flag (h .used) x && below up x t) (put (row (h .rows) x) j) (row (h .rows) x)
     bits-after x =
         marked-bits parents (h .above) (sound .parents-fall) (sound .above-falls) (flag (h .used)) base (sound .nodes .base-used) (sound .nodes .inside)
-        (λ y u. omega (arith, sound .nodes .tabled y u, sound .small)) (sound .tied) j t (h .rows) here (sound .rows-size) x
+        (λ y u. omega (arith, sound .nodes .tabled y u, sound .small)) (sound .tied) j t (h .rows) here (sound .sized .rows-size) x
 
     pub view-marked : view (with-rows h (marked (h .above) base j t (h .rows))) ≡ mark up t j (view h)
     unfolding mark
@@ -292,13 +298,17 @@ module _ (parents ids : List ℕ) (base count t : ℕ) (in-base : T (below (col 
           tied = sound .tied;
           listed-fits = sound .listed-fits;
           tips-fit = sound .tips-fit;
-          used-size = sound .used-size;
-          above-size = sound .above-size;
-          rows-size = length-marked (h .above) (sound .above-falls) base j t (h .rows) ∙ sound .rows-size;
-          row-size = λ x l.
-              ap length (bits-after x)
-              ∙ by-test (λ (v : List ℕ). length v ≡ 2) (flag (h .used) x && below up x t) (put (row (h .rows) x) j) (row (h .rows) x)
-              (λ e. length-put (row (h .rows) x) j ∙ sound .row-size x l) (λ e. sound .row-size x l);
+          sized = record {
+            used-size = sound .sized .used-size;
+            above-size = sound .sized .above-size;
+            rows-size = length-marked (h .above) (sound .above-falls) base j t (h .rows) ∙ sound .sized .rows-size;
+            row-size = λ x l.
+                ap length (bits-after x)
+                ∙ by-test (λ (v : List ℕ). length v ≡ WORDS) (flag (h .used) x && below up x t) (put (row (h .rows) x) j) (row (h .rows) x)
+                (λ e. length-put (row (h .rows) x) j ∙ sound .sized .row-size x l) (λ e. sound .sized .row-size x l);
+            order-size = sound .sized .order-size;
+            heads-size = sound .sized .heads-size;
+          };
           order-clear = sound .order-clear;
           heads-clear = sound .heads-clear;
         }
@@ -311,7 +321,7 @@ module _ (parents ids : List ℕ) (base count t : ℕ) (in-base : T (below (col 
 
     here-after : T (flag (added parents ids t g .used) t)
     unfolding added
-    here-after = T-true (getD-set-same (g .used) t true false (omega (arith, sound .small, sound .used-size)))
+    here-after = T-true (getD-set-same (g .used) t true false (omega (arith, sound .small, sound .sized .used-size)))
 
     pub insertable : Insertable parents ids t g
     insertable =

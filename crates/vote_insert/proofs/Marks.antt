@@ -10,6 +10,7 @@ use lib.Dec.{T, leb}
 use lib.ListN.{set, length, length-set}
 use lib.Seq.{getD-set-same, getD-set-other}
 use borrow.Author.Tests.{leb-false, le-leb, lt-leb}
+use Rattle.sizes.specs.Sizes.{BLOCKS}
 use Rattle.loops.proofs.Tests.{same-test, both, left-of, right-of, true-T, false-not, le-or-lt}
 use Rattle.grandpa.specs.Tree.{below}
 use Rattle.grandpa.proofs.Trees.{below-refl, below-up, below-trans, below-le, below-antisym, below-step}
@@ -65,7 +66,7 @@ module _ (above : List ℕ) (falls : Falls above) (base j : ℕ) where
   length-marked at rows = length-climb (suc at) at rows
 
 module _ (parents above : List ℕ) (falls : Falls parents) (above-falls : Falls above) (used : ℕ → Bool) (base : ℕ) (base-used : T (used base))
-    (inside : (x : ℕ) → T (used x) → T (below (col parents) base x)) (small : (x : ℕ) → T (used x) → x < 256)
+    (inside : (x : ℕ) → T (used x) → T (below (col parents) base x)) (small : (x : ℕ) → T (used x) → x < BLOCKS)
     (tied : (x : ℕ) → T (used x) → x ≢ base → col above x ≡ nearest (col parents) used (col parents x)) (j : ℕ) where
   abbrev up : ℕ → ℕ
   up = col parents
@@ -79,7 +80,7 @@ module _ (parents above : List ℕ) (falls : Falls parents) (above-falls : Falls
   abbrev told : ℕ → List (List ℕ) → ℕ → List ℕ
   told at rows x = cond (used x && below up x at) (put (row rows x) j) (row rows x)
 
-  marked-row : (f at : ℕ) (rows : List (List ℕ)) → at < f → T (used at) → length rows ≡ 256 → (x : ℕ) → row (marked above base j at rows) x ≡ told at rows x
+  marked-row : (f at : ℕ) (rows : List (List ℕ)) → at < f → T (used at) → length rows ≡ BLOCKS → (x : ℕ) → row (marked above base j at rows) x ≡ told at rows x
   marked-row zero at rows h u size x = absurd (omega arith)
   marked-row (suc f) at rows h u size x =
       go (le-or-lt at base)
@@ -135,6 +136,6 @@ module _ (parents above : List ℕ) (falls : Falls parents) (above-falls : Falls
       go (inl l) r = ap (λ (rs : List (List ℕ)). row rs x) (marked-end above above-falls base j at rows l) ∙ stop l (ℕ-discrete x at)
       go (inr l) r = ap (λ (rs : List (List ℕ)). row rs x) (marked-next above above-falls base j at rows l) ∙ r l ∙ climb l (ℕ-discrete x at)
 
-  pub marked-bits : (at : ℕ) (rows : List (List ℕ)) → T (used at) → length rows ≡ 256 → (x : ℕ)
+  pub marked-bits : (at : ℕ) (rows : List (List ℕ)) → T (used at) → length rows ≡ BLOCKS → (x : ℕ)
       → row (marked above base j at rows) x ≡ cond (used x && below (col parents) x at) (put (row rows x) j) (row rows x)
   marked-bits at rows u size x = marked-row (suc at) at rows (omega arith) u size x

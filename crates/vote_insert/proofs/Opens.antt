@@ -8,6 +8,7 @@ use native.Mathlib.Omega.{arith}
 use lib.Dec.{T}
 use lib.ListN.{getD, set, length, length-set, length-replicate, replicate, getD-replicate}
 use lib.Seq.{getD-set-same, getD-set-other}
+use Rattle.sizes.specs.Sizes.{WORDS, BLOCKS}
 use Rattle.loops.specs.Listing.{times, front}
 use Rattle.loops.proofs.Tests.{T-true}
 use Rattle.loops.proofs.Listings.{times-here, times-past, times-none}
@@ -24,19 +25,19 @@ blank x zero k = refl
 blank x (suc n) zero = refl
 blank x (suc n) (suc k) = blank x n k
 
-module _ (parents ids : List ℕ) (falls : Falls parents) (base count : ℕ) (in-table : base < count) (small : count ≤ 256) where
+module _ (parents ids : List ℕ) (falls : Falls parents) (base count : ℕ) (in-table : base < count) (small : count ≤ BLOCKS) where
   abbrev used : ℕ → Bool
-  used = flag (set (replicate 256 false) base true)
+  used = flag (set (replicate BLOCKS false) base true)
 
   here : T (used base)
-  here = T-true (getD-set-same (replicate 256 false) base true false (omega (arith, length-replicate 256 false)))
+  here = T-true (getD-set-same (replicate BLOCKS false) base true false (omega (arith, length-replicate BLOCKS false)))
 
   only : (x : ℕ) → T (used x) → x ≡ base
   only x u = go (ℕ-discrete x base)
     where
       go : Dec (x ≡ base) → x ≡ base
       go (yes e) = e
-      go (no n) = absurd (subst T (getD-set-other (replicate 256 false) base x true false n ∙ blank false 256 x) u)
+      go (no n) = absurd (subst T (getD-set-other (replicate BLOCKS false) base x true false n ∙ blank false BLOCKS x) u)
 
   head : (x : ℕ) → 0 < times x (base ∷ []) → x ≡ base
   head x h = go (ℕ-discrete base x)
@@ -66,16 +67,20 @@ module _ (parents ids : List ℕ) (falls : Falls parents) (base count : ℕ) (in
   sound-opened =
       record {
         parents-fall = falls;
-        above-falls = λ k. omega (arith, blank {A = ℕ} 0 256 k);
+        above-falls = λ k. omega (arith, blank {A = ℕ} 0 BLOCKS k);
         nodes = nodes;
         small = small;
         tied = λ x u n. absurd (n (only x u));
         listed-fits = omega arith;
         tips-fit = omega arith;
-        used-size = simp length-set;
-        above-size = refl;
-        rows-size = refl;
-        row-size = λ x h. ap length (getD-replicate 256 x (0 ∷ 0 ∷ []) [] h);
+        sized = record {
+          used-size = simp length-set;
+          above-size = refl;
+          rows-size = refl;
+          row-size = λ x h. ap length (getD-replicate BLOCKS x (replicate WORDS 0) [] h);
+          order-size = refl;
+          heads-size = refl;
+        };
         order-clear = refl;
         heads-clear = refl;
       }

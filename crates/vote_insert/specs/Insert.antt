@@ -6,6 +6,7 @@ use mathlib.Core.Path.{_≡_}
 use Prim.Native.Nat.{ℕ, zero, suc, _≤_}
 use lib.Dec.{leb}
 use lib.ListN.{set, length, replicate}
+use Rattle.sizes.specs.Sizes.{WORDS, BLOCKS}
 use Rattle.loops.specs.Listing.{front, fold}
 use Rattle.columns.specs.Lists.{padded}
 use Rattle.bitfield.specs.Bits.{put}
@@ -18,12 +19,12 @@ use Rattle.nodes.specs.Columns.{Columns}
 unfoldable pub opened : ℕ → Columns
 opened base =
     record {
-      used = set (replicate 256 false) base true;
-      above = replicate 256 0;
-      rows = replicate 256 (0 ∷ 0 ∷ []);
-      order = replicate 256 0;
+      used = set (replicate BLOCKS false) base true;
+      above = replicate BLOCKS 0;
+      rows = replicate BLOCKS (replicate WORDS 0);
+      order = replicate BLOCKS 0;
       listed = 0;
-      heads = padded 256 (base ∷ []);
+      heads = padded BLOCKS (base ∷ []);
       tips = 1;
     }
 
@@ -42,9 +43,9 @@ added parents ids t g =
       used = set (g .used) t true;
       above = set (set-all (g .above) ms t) t over;
       rows = set (g .rows) t (join-of (row (g .rows)) ms);
-      order = padded 256 order;
+      order = padded BLOCKS order;
       listed = length order;
-      heads = padded 256 heads;
+      heads = padded BLOCKS heads;
       tips = length heads;
     }
 
@@ -72,11 +73,11 @@ inserted parents ids base t j g =
 pub record Addable (parents ids : List ℕ) (t : ℕ) (g : Columns) : Type 0 where
   pub parents-fall : Falls parents
   pub above-falls : Falls (g .above)
-  pub listed-fits : g .listed ≤ 256
-  pub tips-fit : g .tips ≤ 256
-  pub list-fits : added parents ids t g .listed ≤ 256
-  pub heads-fit : added parents ids t g .tips ≤ 256
-  pub heads-clear : g .heads ≡ padded 256 (front (g .tips) (g .heads))
+  pub listed-fits : g .listed ≤ BLOCKS
+  pub tips-fit : g .tips ≤ BLOCKS
+  pub list-fits : added parents ids t g .listed ≤ BLOCKS
+  pub heads-fit : added parents ids t g .tips ≤ BLOCKS
+  pub heads-clear : g .heads ≡ padded BLOCKS (front (g .tips) (g .heads))
 
 -- columns into which a vote for t can be put
 pub record Insertable (parents ids : List ℕ) (t : ℕ) (g : Columns) : Type 0 where

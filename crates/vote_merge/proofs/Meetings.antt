@@ -10,6 +10,7 @@ use lib.Dec.{eqb}
 use lib.ListN.{getD, set, length, length-set, replicate, length-replicate, getD-replicate}
 use lib.Seq.{getD-set-same, getD-set-other}
 use borrow.Author.Tests.{eq-eqb, ne-eqb}
+use Rattle.sizes.specs.Sizes.{BLOCKS}
 use Rattle.loops.specs.Listing.{times, keep, fold}
 use Rattle.loops.proofs.Tests.{by-test}
 use Rattle.loops.proofs.Listings.{times-here, times-more, keep-append, fold-append}
@@ -36,19 +37,19 @@ module _ (up : ℕ → ℕ) (bits : ℕ → List ℕ) (b : ℕ) where
 
   -- a mark and the joined bits for each child, of the nodes in a list
   pub record Kept (l : List ℕ) (seen : List Bool) (sums : List (List ℕ)) : Type 0 where
-    pub seen-size : length seen ≡ 256
-    pub sums-size : length sums ≡ 256
-    pub marked : (c : ℕ) → c < 256 → getD seen c false ≡ not (is-nil (going c l))
-    pub summed : (c : ℕ) → c < 256 → getD sums c [] ≡ join-of bits (going c l)
+    pub seen-size : length seen ≡ BLOCKS
+    pub sums-size : length sums ≡ BLOCKS
+    pub marked : (c : ℕ) → c < BLOCKS → getD seen c false ≡ not (is-nil (going c l))
+    pub summed : (c : ℕ) → c < BLOCKS → getD sums c [] ≡ join-of bits (going c l)
 
-  pub kept-none : Kept [] (replicate 256 false) (replicate 256 no-bits)
+  pub kept-none : Kept [] (replicate BLOCKS false) (replicate BLOCKS no-bits)
   unfolding keep join-of fold
   kept-none =
       record {
-        seen-size = length-replicate 256 false;
-        sums-size = length-replicate 256 no-bits;
-        marked = λ c h. getD-replicate 256 c false false h;
-        summed = λ c h. getD-replicate 256 c no-bits [] h;
+        seen-size = length-replicate BLOCKS false;
+        sums-size = length-replicate BLOCKS no-bits;
+        marked = λ c h. getD-replicate BLOCKS c false false h;
+        summed = λ c h. getD-replicate BLOCKS c no-bits [] h;
       }
 
   more-not-nil : (l : List ℕ) (x : ℕ) → true ≡ not (is-nil (l ++ (x ∷ [])))
@@ -56,7 +57,7 @@ module _ (up : ℕ → ℕ) (bits : ℕ → List ℕ) (b : ℕ) where
   more-not-nil (y ∷ l) x = refl
 
   -- at the node x, which goes to the child c: the bits v with those of x joined in
-  module _ (l : List ℕ) (seen : List Bool) (sums : List (List ℕ)) (kept : Kept l seen sums) (c x : ℕ) (small : c < 256) (e : c ≡ towards up b x)
+  module _ (l : List ℕ) (seen : List Bool) (sums : List (List ℕ)) (kept : Kept l seen sums) (c x : ℕ) (small : c < BLOCKS) (e : c ≡ towards up b x)
       (v : List ℕ) (joins : v ≡ joined (getD sums c []) (bits x)) where
     total : v ≡ join-of bits (going c l ++ (x ∷ []))
     total = joins ∙ ap (λ (w : List ℕ). joined w (bits x)) (kept .summed c small) ∙ sym (join-more bits (going c l) x)
@@ -70,14 +71,14 @@ module _ (up : ℕ → ℕ) (bits : ℕ → List ℕ) (b : ℕ) where
           summed = λ d h. sum d h (ℕ-discrete d c);
         }
       where
-        mark : (d : ℕ) → d < 256 → Dec (d ≡ c) → getD (set seen c true) d false ≡ not (is-nil (going d (l ++ (x ∷ []))))
+        mark : (d : ℕ) → d < BLOCKS → Dec (d ≡ c) → getD (set seen c true) d false ≡ not (is-nil (going d (l ++ (x ∷ []))))
         mark d h (yes q) =
             rw (q, going-here c x l (sym e), getD-set-same seen c true false (omega (arith, kept .seen-size))) (more-not-nil (going c l) x)
         mark d h (no q) =
             getD-set-other seen c d true false q ∙ kept .marked d h
             ∙ ap (λ (m : List ℕ). not (is-nil m)) (sym (going-other d x l (λ z. q (sym z ∙ sym e))))
 
-        sum : (d : ℕ) → d < 256 → Dec (d ≡ c) → getD (set sums c v) d [] ≡ join-of bits (going d (l ++ (x ∷ [])))
+        sum : (d : ℕ) → d < BLOCKS → Dec (d ≡ c) → getD (set sums c v) d [] ≡ join-of bits (going d (l ++ (x ∷ [])))
         sum d h (yes q) = rw (q, going-here c x l (sym e), getD-set-same sums c v [] (omega (arith, kept .sums-size))) total
         sum d h (no q) =
             getD-set-other sums c d v [] q ∙ kept .summed d h ∙ ap (join-of bits) (sym (going-other d x l (λ z. q (sym z ∙ sym e))))

@@ -9,6 +9,7 @@ use native.Mathlib.Omega.{arith}
 use lib.Dec.{T, eqb, eqb→eq}
 use lib.ListN.{length}
 use borrow.Author.Tests.{eq-eqb, ne-eqb}
+use Rattle.sizes.specs.Sizes.{BLOCKS}
 use Rattle.loops.specs.Listing.{keep, front}
 use Rattle.loops.proofs.Listings.{kept-in}
 use Rattle.grandpa.specs.Tree.{below}
@@ -57,7 +58,7 @@ followed-by parents used above order listed b over m k e p q =
 
 -- the turns of the search down
 module _ (up : ℕ → ℕ) (g : Graph) (ok : List ℕ → Bool) (b : ℕ) (ns : List ℕ) where
-  pub settle-ends : (f : ℕ) → 0 < f → (c : ℕ) → c ≡ first-in (λ n. ok (g .bits n)) ns → c ≡ 0 → settle up g ok f b ns ≡ merge up (g .bits) ok 256 b ns
+  pub settle-ends : (f : ℕ) → 0 < f → (c : ℕ) → c ≡ first-in (λ n. ok (g .bits n)) ns → c ≡ 0 → settle up g ok f b ns ≡ merge up (g .bits) ok BLOCKS b ns
   unfolding settle
   settle-ends zero h c e d = absurd (omega arith)
   settle-ends (suc f) h c e d = rw (← e, eq-eqb c 0 d)
@@ -107,12 +108,12 @@ module _ (parents ids : List ℕ) (base count : ℕ) (g : Columns) (sound : Soun
   settle-unheaded ok zero b ns = refl
   settle-unheaded ok (suc f) b ns =
       let c = first-in (λ n. ok (row (g .rows) n)) ns in
-      ap (λ (x : ℕ). cond (eqb c 0) (merge (col parents) (row (g .rows)) ok 256 b ns) x)
+      ap (λ (x : ℕ). cond (eqb c 0) (merge (col parents) (row (g .rows)) ok BLOCKS b ns) x)
       (ap (settle (col parents) bare ok f c) (children-unheaded c) ∙ settle-unheaded ok f c (children (col parents) (view g) c))
 
   pub descend-unheaded : (ok : List ℕ → Bool) (b : ℕ) → descend (col parents) bare ok b ≡ descend (col parents) (view g) ok b
   descend-unheaded ok b =
-      ap (settle (col parents) bare ok 256 b) (following-unheaded b) ∙ settle-unheaded ok 256 b (following (col parents) (view g) b)
+      ap (settle (col parents) bare ok BLOCKS b) (following-unheaded b) ∙ settle-unheaded ok BLOCKS b (following (col parents) (view g) b)
 
   -- a block that passes
   pub ghost-from : (ok : List ℕ → Bool) (b : ℕ) → ok (tally (col parents) (view g) b) ≡ true → (r : ℕ) → r ≡ descend (col parents) bare ok b

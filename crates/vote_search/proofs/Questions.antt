@@ -7,6 +7,7 @@ use Prim.Native.Nat.{ℕ, _+_, _-_, _≤_, min}
 use native.Mathlib.Omega.{arith}
 use lib.Dec.{T, leb→le, le→leb}
 use lib.ListN.{length, getD}
+use Rattle.sizes.specs.Sizes.{WORDS, VOTERS}
 use Rattle.loops.proofs.Tests.{in-left, in-right, either}
 use Rattle.loops.proofs.Sums.{weigh-mono}
 use Rattle.bitfield.specs.Bits.{has}
@@ -26,9 +27,9 @@ answered-mono (Possible p) m n h a =
 
 pub weight-mono : (weights : List ℕ) (s t : ℕ → Bool) → ((p : ℕ) → T (s p) → T (t p)) → weightOf weights s ≤ weightOf weights t
 unfolding weightOf
-weight-mono weights s t h = omega (arith, weigh-mono 64 (λ p. getD weights p 0) s t (λ p l i. h p i))
+weight-mono weights s t h = omega (arith, weigh-mono VOTERS (λ p. getD weights p 0) s t (λ p l i. h p i))
 
-pub passes-mono : (weights : List ℕ) (q : Question) (v w : List ℕ) → length v ≡ 2 → length w ≡ 2
+pub passes-mono : (weights : List ℕ) (q : Question) (v w : List ℕ) → length v ≡ WORDS → length w ≡ WORDS
     → ((j : ℕ) → T (has v j) → T (has w j)) → T (passes weights q v) → T (passes weights q w)
 unfolding passes voted
 passes-mono weights q v w d e h =

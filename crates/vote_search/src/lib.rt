@@ -2,9 +2,11 @@
 ghost use mathlib.Core.Path.{_≡_};
 ghost use mathlib.Core.List.{List};
 ghost use Prim.Native.Nat.{ℕ, _≤_};
+ghost use Rattle.sizes.specs.Sizes.{BLOCKS};
 ghost use Rattle.graph.specs.Ghost.{find-ancestor, descend, find-ghost};
 ghost use Rattle.nodes.specs.Nodes.{col, Falls, placed, passes};
-ghost use Rattle.nodes.specs.Columns.{view, as-found};
+ghost use Rattle.lent.specs.Moment.{given, before, plain};
+ghost use Rattle.nodes.specs.Columns.{graph-at, view, as-found};
 ghost use Rattle.vote_search.specs.Searches.{tallied, followed, Stands, unlisted, unheaded, or-else, this, both};
 use climbs::wide;
 use context::Phase;
@@ -12,11 +14,14 @@ use grandpa::PossibleToPrecommit;
 use nodes::Found;
 use nodes::Places;
 use nodes::Question;
+use sizes::BLOCKS;
+use sizes::VOTERS;
+use sizes::WORDS;
 
 // A block's bits, and whether it is in the graph at all.
 pub struct Tally {
     pub inside: bool,
-    pub bits: [u64; 2],
+    pub bits: [u64; WORDS],
 }
 
 // The first block of threshold weight and the first that can still get it.
@@ -27,15 +32,15 @@ pub struct Both {
 
 // Who voted at or below a block: its node's own bits, else those of the nodes whose edge holds it.
 pub fn cumulative_vote<'a>(
-    parents: &'a [u8; 256],
-    used: &'a [bool; 256],
-    above: &'a [u8; 256],
-    rows: &'a [[u64; 2]; 256],
-    heads: &'a [u8; 256],
+    parents: &'a [u8; BLOCKS],
+    used: &'a [bool; BLOCKS],
+    above: &'a [u8; BLOCKS],
+    rows: &'a [[u64; WORDS]; BLOCKS],
+    heads: &'a [u8; BLOCKS],
     tips: usize,
     block: u8,
 ) -> Tally
-    requires { ⌜ (Falls (now parents)) × (Falls (now above)) × (tips ≤ 256) ⌝ }
+    requires { ⌜ (Falls (now parents)) × (Falls (now above)) × (tips ≤ BLOCKS) ⌝ }
     ensures { λ r. ⌜ r ≡ tallied (now (parents .entry)) (now (used .entry)) (now (above .entry)) (now (rows .entry)) (now (heads .entry)) tips block ⌝ }
 {
     let at = wide(block);
@@ -59,18 +64,18 @@ pub fn cumulative_vote<'a>(
 // The first block from a block towards the base whose bits answer a question with yes. Nothing where none does, or where
 // the block is not in the graph.
 pub fn find_ancestor<'a>(
-    parents: &'a [u8; 256],
-    used: &'a [bool; 256],
-    above: &'a [u8; 256],
-    rows: &'a [[u64; 2]; 256],
-    heads: &'a [u8; 256],
+    parents: &'a [u8; BLOCKS],
+    used: &'a [bool; BLOCKS],
+    above: &'a [u8; BLOCKS],
+    rows: &'a [[u64; WORDS]; BLOCKS],
+    heads: &'a [u8; BLOCKS],
     tips: usize,
-    weights: &'a [u64; 64],
+    weights: &'a [u64; VOTERS],
     base: u8,
     question: Question,
     block: u8,
 ) -> Found
-    requires { ⌜ ((order : List ℕ) × (listed : ℕ) × Stands (now parents) base (record { used = now used; above = now above; rows = now rows; order = order; listed = listed; heads = now heads; tips = tips }) block) ⌝ }
+    requires { ⌜ ((order : List ℕ) × (listed : ℕ) × Stands (now parents) base (graph-at plain (now used) (now above) (now rows) order listed (now heads) tips) block) ⌝ }
     ensures { λ r. ⌜ r ≡ as-found (find-ancestor (col (now (parents .entry))) (unlisted (now (used .entry)) (now (rows .entry)) (now (heads .entry)) tips) base (passes (now (weights .entry)) question) block) ⌝ }
 {
     let mut at = block;
@@ -109,19 +114,19 @@ fn or_this(found: Found, still: PossibleToPrecommit, weight: u64, block: u8) -> 
 // The first block from a block towards the base of precommit weight at least the threshold, and the first that can still
 // get it: one climb, which weighs a block once for both. A block of that weight can, so that the climb may end there.
 pub fn find_both<'a>(
-    parents: &'a [u8; 256],
-    used: &'a [bool; 256],
-    above: &'a [u8; 256],
-    rows: &'a [[u64; 2]; 256],
-    heads: &'a [u8; 256],
+    parents: &'a [u8; BLOCKS],
+    used: &'a [bool; BLOCKS],
+    above: &'a [u8; BLOCKS],
+    rows: &'a [[u64; WORDS]; BLOCKS],
+    heads: &'a [u8; BLOCKS],
     tips: usize,
-    weights: &'a [u64; 64],
+    weights: &'a [u64; VOTERS],
     base: u8,
-    equivocations: [u64; 2],
+    equivocations: [u64; WORDS],
     still: PossibleToPrecommit,
     block: u8,
 ) -> Both
-    requires { ⌜ ((order : List ℕ) × (listed : ℕ) × Stands (now parents) base (record { used = now used; above = now above; rows = now rows; order = order; listed = listed; heads = now heads; tips = tips }) block) ⌝ }
+    requires { ⌜ ((order : List ℕ) × (listed : ℕ) × Stands (now parents) base (graph-at plain (now used) (now above) (now rows) order listed (now heads) tips) block) ⌝ }
     ensures { λ r. ⌜ r ≡ both (col (now (parents .entry))) (unlisted (now (used .entry)) (now (rows .entry)) (now (heads .entry)) tips) base (now (weights .entry)) equivocations still block ⌝ }
 {
     let mut possible = Found::Nothing;
@@ -160,14 +165,14 @@ pub fn find_both<'a>(
 
 // The nodes that follow a block: strictly below it, with no node between.
 fn following<'a>(
-    parents: &'a [u8; 256],
-    used: &'a [bool; 256],
-    above: &'a [u8; 256],
-    order: &'a [u8; 256],
+    parents: &'a [u8; BLOCKS],
+    used: &'a [bool; BLOCKS],
+    above: &'a [u8; BLOCKS],
+    order: &'a [u8; BLOCKS],
     listed: usize,
     block: u8,
 ) -> Places
-    requires { ⌜ (Falls (now parents)) × (listed ≤ 256) ⌝ }
+    requires { ⌜ (Falls (now parents)) × (listed ≤ BLOCKS) ⌝ }
     ensures { λ r. ⌜ r ≡ placed (followed (now (parents .entry)) (now (used .entry)) (now (above .entry)) (now (order .entry)) listed block) ⌝ }
 {
     let over = climbs::nearest(parents, used, block);
@@ -180,17 +185,17 @@ fn following<'a>(
 // From a block that answers a question with yes down the nodes that do, the first of each list, and then to the merge
 // point.
 pub fn descend<'a>(
-    parents: &'a [u8; 256],
-    used: &'a [bool; 256],
-    above: &'a [u8; 256],
-    rows: &'a [[u64; 2]; 256],
-    order: &'a [u8; 256],
+    parents: &'a [u8; BLOCKS],
+    used: &'a [bool; BLOCKS],
+    above: &'a [u8; BLOCKS],
+    rows: &'a [[u64; WORDS]; BLOCKS],
+    order: &'a [u8; BLOCKS],
     listed: usize,
-    weights: &'a [u64; 64],
+    weights: &'a [u64; VOTERS],
     question: Question,
     block: u8,
 ) -> u8
-    requires { ⌜ ((heads : List ℕ) × (tips : ℕ) × (base : ℕ) × Stands (now parents) base (record { used = now used; above = now above; rows = now rows; order = now order; listed = listed; heads = heads; tips = tips }) block) ⌝ }
+    requires { ⌜ ((heads : List ℕ) × (tips : ℕ) × (base : ℕ) × Stands (now parents) base (graph-at plain (now used) (now above) (now rows) (now order) listed heads tips) block) ⌝ }
     ensures { λ r. ⌜ r ≡ descend (col (now (parents .entry))) (unheaded (now (used .entry)) (now (rows .entry)) (now (order .entry)) listed) (passes (now (weights .entry)) question) block ⌝ }
 {
     let follow = following(parents, used, above, order, listed, block);
@@ -214,20 +219,20 @@ pub fn descend<'a>(
 // From a block down the nodes that answer a question with yes, the first of each list, and then to the merge point.
 // Nothing where the block itself does not.
 pub fn find_ghost<'a>(
-    parents: &'a [u8; 256],
-    used: &'a [bool; 256],
-    above: &'a [u8; 256],
-    rows: &'a [[u64; 2]; 256],
-    order: &'a [u8; 256],
+    parents: &'a [u8; BLOCKS],
+    used: &'a [bool; BLOCKS],
+    above: &'a [u8; BLOCKS],
+    rows: &'a [[u64; WORDS]; BLOCKS],
+    order: &'a [u8; BLOCKS],
     listed: usize,
-    heads: &'a [u8; 256],
+    heads: &'a [u8; BLOCKS],
     tips: usize,
-    weights: &'a [u64; 64],
+    weights: &'a [u64; VOTERS],
     question: Question,
     block: u8,
 ) -> Found
-    requires { ⌜ ((base : ℕ) × Stands (now parents) base (record { used = now used; above = now above; rows = now rows; order = now order; listed = listed; heads = now heads; tips = tips }) block) ⌝ }
-    ensures { λ r. ⌜ r ≡ as-found (find-ghost (col (now (parents .entry))) (view (record { used = now (used .entry); above = now (above .entry); rows = now (rows .entry); order = now (order .entry); listed = listed; heads = now (heads .entry); tips = tips })) (passes (now (weights .entry)) question) block) ⌝ }
+    requires { ⌜ ((base : ℕ) × Stands (now parents) base (graph-at given used above rows order listed heads tips) block) ⌝ }
+    ensures { λ r. ⌜ r ≡ as-found (find-ghost (col (now (parents .entry))) (view (graph-at before used above rows order listed heads tips)) (passes (now (weights .entry)) question) block) ⌝ }
 {
     let start = cumulative_vote(parents, used, above, rows, heads, tips, block);
     let bits = start.bits;

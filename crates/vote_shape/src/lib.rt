@@ -2,67 +2,84 @@
 // in linear time.
 ghost use mathlib.Core.Path.{_≡_};
 ghost use mathlib.Core.Bool.{not, _||_};
-ghost use Prim.Native.Nat.{_%_};
+ghost use Prim.Native.Nat.{_<_};
 ghost use lib.Dec.{leb, ltb};
+ghost use Rattle.lent.specs.Moment.{before};
 ghost use Rattle.nodes.specs.Nodes.{Falls};
-ghost use Rattle.vote_shape.specs.Voted.{counted, first-clear, second-clear, tidy, marks, noted, targets-used, only-marked, noded, paired, written, voted};
+ghost use Rattle.tracker.specs.Votes.{votes-at};
+ghost use Rattle.vote_shape.specs.Voted.{counted, first-clear, second-clear, tidy, marks, noted, targets-used, only-marked, noded, written, voted};
+ghost use Rattle.sizes.specs.Sizes.{VOTES, HISTORY, BLOCKS};
+ghost use Rattle.tracker.specs.Recorded.{paired};
 use climbs::wide;
+use sizes::BLOCKS;
+use sizes::HISTORY;
+use sizes::VOTES;
+use sizes::WORDS;
 
 // Whether the recorded votes of `size` voters and what is kept beside them keep their shape rules.
 pub fn is_voted<'a>(
     size: usize,
-    parents: &'a [u8; 256],
+    parents: &'a [u8; BLOCKS],
     base: u8,
-    used: &'a [bool; 256],
-    rows: &'a [[u64; 2]; 256],
-    times: &'a [u8; 128],
-    places: &'a [u8; 128],
-    signatures: &'a [u64; 128],
-    targets: &'a [u32; 128],
-    numbers: &'a [u32; 128],
-    seconds: &'a [u64; 128],
-    equivocations: [u64; 2],
-    entries: &'a [u8; 256],
+    used: &'a [bool; BLOCKS],
+    rows: &'a [[u64; WORDS]; BLOCKS],
+    counts: &'a [u8; VOTES],
+    first_block: &'a [u8; VOTES],
+    first_signature: &'a [u64; VOTES],
+    second_target: &'a [u32; VOTES],
+    second_number: &'a [u32; VOTES],
+    second_signature: &'a [u64; VOTES],
+    equivocations: [u64; WORDS],
+    entries: &'a [u16; HISTORY],
     count: usize,
 ) -> bool
     requires { ⌜ Falls (now parents) ⌝ }
-    ensures { λ r. ⌜ r ≡ voted size (now (parents .entry)) base (now (used .entry)) (now (rows .entry)) (record { times = now (times .entry); places = now (places .entry); signatures = now (signatures .entry); targets = now (targets .entry); numbers = now (numbers .entry); seconds = now (seconds .entry) }) equivocations (now (entries .entry)) count ⌝ }
+    ensures { λ r. ⌜ r ≡ voted size (now (parents .entry)) base (now (used .entry)) (now (rows .entry))
+        (votes-at before counts «first_block» «first_signature» «second_target» «second_number» «second_signature») equivocations (now (entries .entry)) count ⌝ }
 {
-    if !tidy(size, times, places, signatures, targets, numbers, seconds) {
+    if !tidy(
+        size,
+        counts,
+        first_block,
+        first_signature,
+        second_target,
+        second_number,
+        second_signature,
+    ) {
         return false;
     }
-    if !noded(base, used, times, places) {
+    if !noded(base, used, counts, first_block) {
         return false;
     }
-    if !vote_bits::told(parents, used, rows, times, places) {
+    if !vote_bits::told(parents, used, rows, counts, first_block) {
         return false;
     }
-    if !vote_bits::doubled(times, equivocations) {
+    if !vote_bits::doubled(counts, equivocations) {
         return false;
     }
-    written(times, entries, count)
+    written(counts, entries, count)
 }
 
 fn tidy<'a>(
     size: usize,
-    times: &'a [u8; 128],
-    places: &'a [u8; 128],
-    signatures: &'a [u64; 128],
-    targets: &'a [u32; 128],
-    numbers: &'a [u32; 128],
-    seconds: &'a [u64; 128],
+    counts: &'a [u8; VOTES],
+    first_block: &'a [u8; VOTES],
+    first_signature: &'a [u64; VOTES],
+    second_target: &'a [u32; VOTES],
+    second_number: &'a [u32; VOTES],
+    second_signature: &'a [u64; VOTES],
 ) -> bool
-    ensures { λ r. ⌜ r ≡ tidy size (record { times = now (times .entry); places = now (places .entry); signatures = now (signatures .entry); targets = now (targets .entry); numbers = now (numbers .entry); seconds = now (seconds .entry) }) ⌝ }
+    ensures { λ r. ⌜ r ≡ tidy size (votes-at before counts «first_block» «first_signature» «second_target» «second_number» «second_signature») ⌝ }
 {
-    for j in 0..128 {
-        let n = times[j];
+    for j in 0..VOTES {
+        let n = counts[j];
         if !is_counted(size, j, n) {
             return false;
         }
-        if !is_first_clear(n, places[j], signatures[j]) {
+        if !is_first_clear(n, first_block[j], first_signature[j]) {
             return false;
         }
-        if !is_second_clear(n, targets[j], numbers[j], seconds[j]) {
+        if !is_second_clear(n, second_target[j], second_number[j], second_signature[j]) {
             return false;
         }
     }
@@ -70,12 +87,13 @@ fn tidy<'a>(
 }
 
 fn is_counted(size: usize, j: usize, n: u8) -> bool
+    requires { ⌜ j < VOTES ⌝ }
     ensures { λ r. ⌜ r ≡ counted size j n ⌝ }
 {
     if 2 < n {
         return false;
     }
-    if j / 2 < size {
+    if layouts::index_place(j) < size {
         return true;
     }
     n == 0
@@ -108,25 +126,34 @@ fn is_second_clear(n: u8, target: u32, number: u32, second: u64) -> bool
     second == 0
 }
 
-fn noded<'a>(base: u8, used: &'a [bool; 256], times: &'a [u8; 128], places: &'a [u8; 128]) -> bool
-    ensures { λ r. ⌜ r ≡ noded base (now (used .entry)) (now (times .entry)) (now (places .entry)) ⌝ }
+fn noded<'a>(
+    base: u8,
+    used: &'a [bool; BLOCKS],
+    counts: &'a [u8; VOTES],
+    first_block: &'a [u8; VOTES],
+) -> bool
+    ensures { λ r. ⌜ r ≡ noded base (now (used .entry)) (now (counts .entry)) (now («first_block» .entry)) ⌝ }
 {
     let at = wide(base);
     if !used[at] {
         return false;
     }
-    if !targets_used(used, times, places) {
+    if !targets_used(used, counts, first_block) {
         return false;
     }
-    let noted = noted(base, times, places);
+    let noted = noted(base, counts, first_block);
     only_marked(used, &noted)
 }
 
-fn targets_used<'a>(used: &'a [bool; 256], times: &'a [u8; 128], places: &'a [u8; 128]) -> bool
-    ensures { λ r. ⌜ r ≡ targets-used (now (used .entry)) (now (times .entry)) (now (places .entry)) ⌝ }
+fn targets_used<'a>(
+    used: &'a [bool; BLOCKS],
+    counts: &'a [u8; VOTES],
+    first_block: &'a [u8; VOTES],
+) -> bool
+    ensures { λ r. ⌜ r ≡ targets-used (now (used .entry)) (now (counts .entry)) (now («first_block» .entry)) ⌝ }
 {
-    for j in 0..128 {
-        if !is_used(times[j], used[wide(places[j])]) {
+    for j in 0..VOTES {
+        if !is_used(counts[j], used[wide(first_block[j])]) {
             return false;
         }
     }
@@ -143,25 +170,25 @@ fn is_used(n: u8, node: bool) -> bool
 }
 
 // The base and the targets of first votes.
-fn noted<'a>(base: u8, times: &'a [u8; 128], places: &'a [u8; 128]) -> [bool; 256]
-    ensures { λ r. ⌜ r ≡ marks 256 (noted base (now (times .entry)) (now (places .entry))) ⌝ }
+fn noted<'a>(base: u8, counts: &'a [u8; VOTES], first_block: &'a [u8; VOTES]) -> [bool; BLOCKS]
+    ensures { λ r. ⌜ r ≡ marks BLOCKS (noted base (now (counts .entry)) (now («first_block» .entry))) ⌝ }
 {
-    let mut marks = [false; 256];
+    let mut marks = [false; BLOCKS];
     marks[wide(base)] = true;
-    for j in 0..128 {
-        if times[j] == 0 {
+    for j in 0..VOTES {
+        if counts[j] == 0 {
             continue;
         }
-        let at = wide(places[j]);
+        let at = wide(first_block[j]);
         marks[at] = true;
     }
     marks
 }
 
-fn only_marked<'a>(used: &'a [bool; 256], marks: &'a [bool; 256]) -> bool
+fn only_marked<'a>(used: &'a [bool; BLOCKS], marks: &'a [bool; BLOCKS]) -> bool
     ensures { λ r. ⌜ r ≡ only-marked (now (used .entry)) (now (marks .entry)) ⌝ }
 {
-    for x in 0..256 {
+    for x in 0..BLOCKS {
         if !is_marked(used[x], marks[x]) {
             return false;
         }
@@ -178,29 +205,30 @@ fn is_marked(node: bool, mark: bool) -> bool
     mark
 }
 
-fn written<'a>(times: &'a [u8; 128], entries: &'a [u8; 256], count: usize) -> bool
-    ensures { λ r. ⌜ r ≡ written (now (times .entry)) (now (entries .entry)) count ⌝ }
+fn written<'a>(counts: &'a [u8; VOTES], entries: &'a [u16; HISTORY], count: usize) -> bool
+    ensures { λ r. ⌜ r ≡ written (now (counts .entry)) (now (entries .entry)) count ⌝ }
 {
-    if 256 < count {
+    if HISTORY < count {
         return false;
     }
-    let pairs = pairs(times);
-    graph_lists::laid(entries, count, &pairs)
+    let pairs = pairs(counts);
+    entry_lists::laid(entries, count, &pairs)
 }
 
-// Entry 2j is the first pair of index j, entry 2j + 1 its second.
-fn pairs(times: &[u8; 128]) -> [bool; 256]
-    ensures { λ r. ⌜ r ≡ marks 256 (paired (now (times .entry))) ⌝ }
+// The entries of the recorded pairs.
+fn pairs(counts: &[u8; VOTES]) -> [bool; HISTORY]
+    ensures { λ r. ⌜ r ≡ marks HISTORY (paired (now (counts .entry))) ⌝ }
 {
-    let mut marks = [false; 256];
-    for e in 0..256 {
-        marks[e] = is_paired(e, times[e / 2]);
+    let mut marks = [false; HISTORY];
+    for e in 0..HISTORY {
+        marks[e] = is_paired(counts, e as u16);
     }
     marks
 }
 
-fn is_paired(e: usize, n: u8) -> bool
-    ensures { λ r. ⌜ r ≡ ltb (e % 2) n ⌝ }
+fn is_paired(counts: &[u8; VOTES], entry: u16) -> bool
+    requires { ⌜ entry < HISTORY ⌝ }
+    ensures { λ r. ⌜ r ≡ paired (now (counts .entry)) entry ⌝ }
 {
-    e % 2 < wide(n)
+    layouts::entry_pair(entry) < wide(counts[layouts::entry_index(entry)])
 }

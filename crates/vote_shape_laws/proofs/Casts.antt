@@ -8,6 +8,7 @@ use native.Mathlib.Decide.{decLt}
 use lib.Dec.{T, ltb}
 use lib.ListN.{length, List·getD-eq-default}
 use borrow.Author.Tests.{lt-ltb, le-ltb}
+use Rattle.sizes.specs.Sizes.{VOTES}
 use Rattle.grandpa.specs.Tree.{below}
 use Rattle.grandpa.specs.Vote.{lands, equivocated}
 use Rattle.graph.specs.Shape.{Targets}
@@ -43,26 +44,26 @@ of-aim (suc zero) t x h e = e
 of-aim (suc (suc n)) t x h e = e
 
 module _ (v : Votes) (j : ℕ) where
-  pub lands-cast : (up : ℕ → ℕ) (x : ℕ) → lands up x (cast v j) ≡ (ltb 0 (col (v .times) j) && below up x (col (v .places) j))
+  pub lands-cast : (up : ℕ → ℕ) (x : ℕ) → lands up x (cast v j) ≡ (ltb 0 (col (v .counts) j) && below up x (col (v .«first_block») j))
   unfolding cast
-  lands-cast up x = lands-of up x (col (v .times) j) (col (v .places) j)
+  lands-cast up x = lands-of up x (col (v .counts) j) (col (v .«first_block») j)
 
-  pub twice-cast : equivocated (cast v j) ≡ ltb 1 (col (v .times) j)
+  pub twice-cast : equivocated (cast v j) ≡ ltb 1 (col (v .counts) j)
   unfolding cast
-  twice-cast = twice-of (col (v .times) j) (col (v .places) j)
+  twice-cast = twice-of (col (v .counts) j) (col (v .«first_block») j)
 
-  pub aim-cast : (x : ℕ) → Targets (cast v j) x → (0 < col (v .times) j) × (col (v .places) j ≡ x)
+  pub aim-cast : (x : ℕ) → Targets (cast v j) x → (0 < col (v .counts) j) × (col (v .«first_block») j ≡ x)
   unfolding cast
-  aim-cast x a = aim-of (col (v .times) j) (col (v .places) j) x a
+  aim-cast x a = aim-of (col (v .counts) j) (col (v .«first_block») j) x a
 
-  pub cast-aim : (x : ℕ) → 0 < col (v .times) j → col (v .places) j ≡ x → Targets (cast v j) x
+  pub cast-aim : (x : ℕ) → 0 < col (v .counts) j → col (v .«first_block») j ≡ x → Targets (cast v j) x
   unfolding cast
-  cast-aim x h e = of-aim (col (v .times) j) (col (v .places) j) x h e
+  cast-aim x h e = of-aim (col (v .counts) j) (col (v .«first_block») j) x h e
 
   -- an index with a pair is within the column
-  pub spoken-in : length (v .times) ≡ 128 → 0 < col (v .times) j → j < 128
-  spoken-in s h = go (decLt j 128)
+  pub spoken-in : length (v .counts) ≡ VOTES → 0 < col (v .counts) j → j < VOTES
+  spoken-in s h = go (decLt j VOTES)
     where
-      go : Dec (j < 128) → j < 128
+      go : Dec (j < VOTES) → j < VOTES
       go (yes l) = l
-      go (no l) = absurd (let z : col (v .times) j ≡ 0 = List·getD-eq-default (v .times) 0 (omega arith) in omega arith)
+      go (no l) = absurd (let z : col (v .counts) j ≡ 0 = List·getD-eq-default (v .counts) 0 (omega arith) in omega arith)

@@ -2,34 +2,37 @@
 use mathlib.Core.Bool.{true, false, _&&_, _||_}
 use mathlib.Core.Path.{_≡_}
 use mathlib.Core.Logic.{_⊎_, inl, inr}
-use Prim.Native.Nat.{ℕ, _*_, _/_, _≤_, _<_}
+use Prim.Native.Nat.{ℕ, _≤_, _<_}
 use native.Mathlib.Decide.{decLt}
 use native.Mathlib.Omega.{arith}
 use lib.Dec.{T, eqb, leb, ltb, eqb→eq, leb→le, ltb→lt}
 use borrow.Author.Tests.{eq-eqb, le-leb, lt-ltb}
+use Rattle.sizes.specs.Sizes.{VOTES}
+use Rattle.layouts.specs.Layout.{index-place}
 use Rattle.loops.proofs.Tests.{T-true, both, left-of, right-of, in-left, in-right, either}
 use Rattle.loops.proofs.Alls.{all-at, all-intro}
 use Rattle.nodes.specs.Nodes.{col}
 use Rattle.tracker.specs.declared.Votes.{Votes}
+use Rattle.tracker.specs.Votes.{Wide}
 use Rattle.vote_shape.specs.Voted.{counted, first-clear, second-clear, tidy-at, tidy}
-use Rattle.vote_shape_laws.specs.Recorded.{Tidy, Wide}
+use Rattle.vote_shape_laws.specs.Recorded.{Tidy}
 use Rattle.vote_shape_laws.proofs.Casts.{past}
 
 -- the tests of one index
 module _ (size j n : ℕ) where
-  counted-says : T (counted size j n) → (n ≤ 2) × (2 * size ≤ j → n ≡ 0)
-  counted-says t = (leb→le n 2 (left-of (leb n 2) _ t), λ h. go h (either (ltb (j / 2) size) _ (right-of (leb n 2) _ t)))
+  counted-says : T (counted size j n) → (n ≤ 2) × (size ≤ index-place j → n ≡ 0)
+  counted-says t = (leb→le n 2 (left-of (leb n 2) _ t), λ h. go h (either (ltb (index-place j) size) _ (right-of (leb n 2) _ t)))
     where
-      go : 2 * size ≤ j → T (ltb (j / 2) size) ⊎ T (eqb n 0) → n ≡ 0
-      go h (inl l) = absurd (let k = ltb→lt (j / 2) size l in omega arith)
+      go : size ≤ index-place j → T (ltb (index-place j) size) ⊎ T (eqb n 0) → n ≡ 0
+      go h (inl l) = absurd (let k = ltb→lt (index-place j) size l in omega arith)
       go h (inr e) = eqb→eq n 0 e
 
-  says-counted : n ≤ 2 → (2 * size ≤ j → n ≡ 0) → T (counted size j n)
-  says-counted h f = both (leb n 2) _ (T-true (le-leb n 2 h)) (go (decLt (j / 2) size))
+  says-counted : n ≤ 2 → (size ≤ index-place j → n ≡ 0) → T (counted size j n)
+  says-counted h f = both (leb n 2) _ (T-true (le-leb n 2 h)) (go (decLt (index-place j) size))
     where
-      go : Dec (j / 2 < size) → T (ltb (j / 2) size || eqb n 0)
-      go (yes l) = in-left (ltb (j / 2) size) (eqb n 0) (T-true (lt-ltb (j / 2) size l))
-      go (no l) = in-right (ltb (j / 2) size) (eqb n 0) (T-true (eq-eqb n 0 (f (omega arith))))
+      go : Dec (index-place j < size) → T (ltb (index-place j) size || eqb n 0)
+      go (yes l) = in-left (ltb (index-place j) size) (eqb n 0) (T-true (lt-ltb (index-place j) size l))
+      go (no l) = in-right (ltb (index-place j) size) (eqb n 0) (T-true (eq-eqb n 0 (f (omega arith))))
 
 module _ (n place signature : ℕ) where
   first-says : T (first-clear n place signature) → n ≡ 0 → (place ≡ 0) × (signature ≡ 0)
@@ -71,69 +74,69 @@ module _ (n target number second : ℕ) where
 
 module _ (size : ℕ) (v : Votes) where
   record Passed (j : ℕ) : Type 0 where
-    pub counts : T (counted size j (col (v .times) j))
-    pub first : T (first-clear (col (v .times) j) (col (v .places) j) (col (v .signatures) j))
-    pub second : T (second-clear (col (v .times) j) (col (v .targets) j) (col (v .numbers) j) (col (v .seconds) j))
+    pub counts : T (counted size j (col (v .counts) j))
+    pub first : T (first-clear (col (v .counts) j) (col (v .«first_block») j) (col (v .«first_signature») j))
+    pub second : T (second-clear (col (v .counts) j) (col (v .«second_target») j) (col (v .«second_number») j) (col (v .«second_signature») j))
 
   passed : (j : ℕ) → T (tidy-at size v j) → Passed j
   unfolding tidy-at
   passed j t =
-      let a = right-of (counted size j (col (v .times) j)) _ t in
+      let a = right-of (counted size j (col (v .counts) j)) _ t in
       record {
-        counts = left-of (counted size j (col (v .times) j)) _ t;
-        first = left-of (first-clear (col (v .times) j) (col (v .places) j) (col (v .signatures) j)) _ a;
-        second = right-of (first-clear (col (v .times) j) (col (v .places) j) (col (v .signatures) j)) _ a;
+        counts = left-of (counted size j (col (v .counts) j)) _ t;
+        first = left-of (first-clear (col (v .counts) j) (col (v .«first_block») j) (col (v .«first_signature») j)) _ a;
+        second = right-of (first-clear (col (v .counts) j) (col (v .«first_block») j) (col (v .«first_signature») j)) _ a;
       }
 
   passes : (j : ℕ) → Passed j → T (tidy-at size v j)
   unfolding tidy-at
   passes j p =
-      both (counted size j (col (v .times) j)) _ (p .counts)
-      (both (first-clear (col (v .times) j) (col (v .places) j) (col (v .signatures) j)) _ (p .first) (p .second))
+      both (counted size j (col (v .counts) j)) _ (p .counts)
+      (both (first-clear (col (v .counts) j) (col (v .«first_block») j) (col (v .«first_signature») j)) _ (p .first) (p .second))
 
   pub tidy-says : Wide v → T (tidy size v) → Tidy size v
   unfolding tidy
   tidy-says w t =
       record {
-        few = λ j. few j (decLt j 128);
-        none-past = λ j h. none-past j h (decLt j 128);
-        no-first = λ j e. no-first j e (decLt j 128);
-        no-second = λ j e. no-second j e (decLt j 128);
+        few = λ j. few j (decLt j VOTES);
+        none-past = λ j h. none-past j h (decLt j VOTES);
+        no-first = λ j e. no-first j e (decLt j VOTES);
+        no-second = λ j e. no-second j e (decLt j VOTES);
       }
     where
-      at : (j : ℕ) → j < 128 → Passed j
-      at j h = passed j (all-at (tidy-at size v) 128 t j h)
+      at : (j : ℕ) → j < VOTES → Passed j
+      at j h = passed j (all-at (tidy-at size v) VOTES t j h)
 
-      few : (j : ℕ) → Dec (j < 128) → col (v .times) j ≤ 2
-      few j (yes l) = counted-says size j (col (v .times) j) (at j l .counts) .0
-      few j (no l) = omega (arith, past (v .times) 128 j (w .times-size) (omega arith))
+      few : (j : ℕ) → Dec (j < VOTES) → col (v .counts) j ≤ 2
+      few j (yes l) = counted-says size j (col (v .counts) j) (at j l .counts) .0
+      few j (no l) = omega (arith, past (v .counts) VOTES j (w .counts-size) (omega arith))
 
-      none-past : (j : ℕ) → 2 * size ≤ j → Dec (j < 128) → col (v .times) j ≡ 0
-      none-past j h (yes l) = counted-says size j (col (v .times) j) (at j l .counts) .1 h
-      none-past j h (no l) = past (v .times) 128 j (w .times-size) (omega arith)
+      none-past : (j : ℕ) → size ≤ index-place j → Dec (j < VOTES) → col (v .counts) j ≡ 0
+      none-past j h (yes l) = counted-says size j (col (v .counts) j) (at j l .counts) .1 h
+      none-past j h (no l) = past (v .counts) VOTES j (w .counts-size) (omega arith)
 
-      no-first : (j : ℕ) → col (v .times) j ≡ 0 → Dec (j < 128) → (col (v .places) j ≡ 0) × (col (v .signatures) j ≡ 0)
+      no-first : (j : ℕ) → col (v .counts) j ≡ 0 → Dec (j < VOTES) → (col (v .«first_block») j ≡ 0) × (col (v .«first_signature») j ≡ 0)
       no-first j e (yes l) =
-          first-says (col (v .times) j) (col (v .places) j) (col (v .signatures) j) (at j l .first) e
-      no-first j e (no l) = (past (v .places) 128 j (w .places-size) (omega arith), past (v .signatures) 128 j (w .signatures-size) (omega arith))
+          first-says (col (v .counts) j) (col (v .«first_block») j) (col (v .«first_signature») j) (at j l .first) e
+      no-first j e (no l) = (past (v .«first_block») VOTES j (w .first-block-size) (omega arith), past (v .«first_signature») VOTES j (w .first-signature-size) (omega arith))
 
-      no-second : (j : ℕ) → col (v .times) j ≤ 1 → Dec (j < 128)
-          → (col (v .targets) j ≡ 0) × (col (v .numbers) j ≡ 0) × (col (v .seconds) j ≡ 0)
+      no-second : (j : ℕ) → col (v .counts) j ≤ 1 → Dec (j < VOTES)
+          → (col (v .«second_target») j ≡ 0) × (col (v .«second_number») j ≡ 0) × (col (v .«second_signature») j ≡ 0)
       no-second j e (yes l) =
-          second-says (col (v .times) j) (col (v .targets) j) (col (v .numbers) j) (col (v .seconds) j) (at j l .second) e
+          second-says (col (v .counts) j) (col (v .«second_target») j) (col (v .«second_number») j) (col (v .«second_signature») j) (at j l .second) e
       no-second j e (no l) = (
-        past (v .targets) 128 j (w .targets-size) (omega arith),
-        past (v .numbers) 128 j (w .numbers-size) (omega arith),
-        past (v .seconds) 128 j (w .seconds-size) (omega arith),
+        past (v .«second_target») VOTES j (w .second-target-size) (omega arith),
+        past (v .«second_number») VOTES j (w .second-number-size) (omega arith),
+        past (v .«second_signature») VOTES j (w .second-signature-size) (omega arith),
       )
 
   pub says-tidy : Tidy size v → T (tidy size v)
   unfolding tidy
   says-tidy t =
-      all-intro (tidy-at size v) 128
+      all-intro (tidy-at size v) VOTES
       (λ j h. passes j
       (record {
-        counts = says-counted size j (col (v .times) j) (t .few j) (t .none-past j);
-        first = says-first (col (v .times) j) (col (v .places) j) (col (v .signatures) j) (t .no-first j);
-        second = says-second (col (v .times) j) (col (v .targets) j) (col (v .numbers) j) (col (v .seconds) j) (t .no-second j);
+        counts = says-counted size j (col (v .counts) j) (t .few j) (t .none-past j);
+        first = says-first (col (v .counts) j) (col (v .«first_block») j) (col (v .«first_signature») j) (t .no-first j);
+        second = says-second (col (v .counts) j) (col (v .«second_target») j) (col (v .«second_number») j) (col (v .«second_signature») j) (t .no-second j);
       }))

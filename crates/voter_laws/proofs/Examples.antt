@@ -4,6 +4,7 @@ use mathlib.Core.List.{List, [], _∷_}
 use mathlib.Core.Path.{_≡_, refl}
 use Prim.Native.Nat.{ℕ, zero, suc}
 use lib.ListN.{replicate}
+use Rattle.sizes.specs.Sizes.{VOTERS}
 use Rattle.loops.specs.Loop.{first}
 use Rattle.loops.specs.All.{all, any}
 use Rattle.loops.specs.Sum.{sum}
@@ -66,8 +67,8 @@ sixty-four = (refl, refl, refl, refl)
 
 -- the shape rules: a set of `new`; the same with the ids turned round, with a weight gone, with another total
 shaped : (good (new (2 ∷ 1 ∷ []) (5 ∷ 6 ∷ []) .voters) ≡ true)
-    × (sound (padded 64 (2 ∷ 1 ∷ [])) (padded 64 (6 ∷ 5 ∷ [])) 2 8 11 ≡ false)
-    × (sound (padded 64 (1 ∷ 2 ∷ [])) (padded 64 (11 ∷ 0 ∷ [])) 2 8 11 ≡ false)
-    × (sound (padded 64 (1 ∷ 2 ∷ [])) (padded 64 (6 ∷ 5 ∷ [])) 2 8 12 ≡ false)
+    × (sound (padded VOTERS (2 ∷ 1 ∷ [])) (padded VOTERS (6 ∷ 5 ∷ [])) 2 8 11 ≡ false)
+    × (sound (padded VOTERS (1 ∷ 2 ∷ [])) (padded VOTERS (11 ∷ 0 ∷ [])) 2 8 11 ≡ false)
+    × (sound (padded VOTERS (1 ∷ 2 ∷ [])) (padded VOTERS (6 ∷ 5 ∷ [])) 2 8 12 ≡ false)
 unfolding new voters enter sum padded sound placed rising non-zero blank all
 shaped = (refl, refl, refl, refl)

@@ -9,6 +9,7 @@ use native.Mathlib.Omega.{arith}
 use lib.Dec.{T, eqb, ltb, eqb→eq, leb→le, ltb→lt, T-not, not-T}
 use lib.ListN.{length, getD, List·getD-eq-default}
 use borrow.Author.Tests.{eq-eqb, le-leb, lt-ltb}
+use Rattle.sizes.specs.Sizes.{VOTERS}
 use Rattle.loops.proofs.Tests.{T-true, true-T, left-of, right-of, in-left, in-right, either}
 use Rattle.loops.specs.Sum.{sum}
 use Rattle.loops.proofs.Alls.{all-at, all-intro}
@@ -60,21 +61,21 @@ module _ (column : List ℕ) (n : ℕ) where
   means-non-zero f =
       all-intro _ n (λ k h. not-T (eqb (getD column k 0) 0) (λ t. let e = eqb→eq (getD column k 0) 0 t in omega (arith, f k h)))
 
-  pub blank-means : length column ≡ 64 → T (blank column n 64) → (k : ℕ) → n ≤ k → getD column k 0 ≡ 0
+  pub blank-means : length column ≡ VOTERS → T (blank column n VOTERS) → (k : ℕ) → n ≤ k → getD column k 0 ≡ 0
   unfolding blank
-  blank-means s t k h = go (decLe 64 k)
+  blank-means s t k h = go (decLe VOTERS k)
     where
-      go : Dec (64 ≤ k) → getD column k 0 ≡ 0
+      go : Dec (VOTERS ≤ k) → getD column k 0 ≡ 0
       go (yes l) = List·getD-eq-default column 0 (omega arith)
-      go (no l) = side (either (ltb k n) _ (all-at _ 64 t k (omega arith)))
+      go (no l) = side (either (ltb k n) _ (all-at _ VOTERS t k (omega arith)))
         where
           side : T (ltb k n) ⊎ T (eqb (getD column k 0) 0) → getD column k 0 ≡ 0
           side (inl m) = absurd (omega (arith, ltb→lt k n m))
           side (inr m) = eqb→eq _ _ m
 
-  pub means-blank : ((k : ℕ) → n ≤ k → getD column k 0 ≡ 0) → T (blank column n 64)
+  pub means-blank : ((k : ℕ) → n ≤ k → getD column k 0 ≡ 0) → T (blank column n VOTERS)
   unfolding blank
-  means-blank f = all-intro _ 64 (λ k h. go k (decLe n k))
+  means-blank f = all-intro _ VOTERS (λ k h. go k (decLe n k))
     where
       go : (k : ℕ) → Dec (n ≤ k) → T (ltb k n || eqb (getD column k 0) 0)
       go k (yes l) = in-right (ltb k n) (eqb (getD column k 0) 0) (T-true (eq-eqb _ _ (f k l)))
@@ -85,8 +86,8 @@ module _ (s : VoterSet) where
   unfolding sound placed
   good-means e =
       let t : T (good s) = T-true e in
-      let a : length (s .ids) ≡ 64 = eqb→eq _ _ (search (left-of, right-of)) in
-      let b : length (s .weights) ≡ 64 = eqb→eq _ _ (search (left-of, right-of)) in
+      let a : length (s .ids) ≡ VOTERS = eqb→eq _ _ (search (left-of, right-of)) in
+      let b : length (s .weights) ≡ VOTERS = eqb→eq _ _ (search (left-of, right-of)) in
       let u : s .total ≡ total-of (s .weights) = eqb→eq _ _ (search (left-of, right-of) depth 10) in
       record {
         ids-sized = a;
@@ -105,13 +106,13 @@ module _ (s : VoterSet) where
   means-good g =
       let u : s .total ≡ total-of (s .weights) = rw (g .weights-sized) (g .total-is) in
       rw (
-        eq-eqb _ 64 (g .ids-sized),
-        eq-eqb _ 64 (g .weights-sized),
-        le-leb _ 64 (g .few),
+        eq-eqb _ VOTERS (g .ids-sized),
+        eq-eqb _ VOTERS (g .weights-sized),
+        le-leb _ VOTERS (g .few),
         true-T (rising (s .ids) (s .count)) (means-rising (s .ids) (s .count) (g .ids-rise)),
         true-T (non-zero (s .weights) (s .count)) (means-non-zero (s .weights) (s .count) (g .weigh-some)),
-        true-T (blank (s .ids) (s .count) 64) (means-blank (s .ids) (s .count) (g .no-id)),
-        true-T (blank (s .weights) (s .count) 64) (means-blank (s .weights) (s .count) (g .no-weight)),
+        true-T (blank (s .ids) (s .count) VOTERS) (means-blank (s .ids) (s .count) (g .no-id)),
+        true-T (blank (s .weights) (s .count) VOTERS) (means-blank (s .weights) (s .count) (g .no-weight)),
         eq-eqb _ _ u,
       )
       (eq-eqb _ _ (g .threshold-is))
@@ -119,9 +120,9 @@ module _ (s : VoterSet) where
   -- the unused places add nothing to the total
   pub total-used : Good s → s .total ≡ sum (s .count) (λ k. getD (s .weights) k 0)
   total-used g =
-      let e : 64 ≡ s .count + (64 - s .count) = omega (arith, g .few) in
+      let e : VOTERS ≡ s .count + (VOTERS - s .count) = omega (arith, g .few) in
       g .total-is ∙ ap (λ (n : ℕ). sum n (λ k. getD (s .weights) k 0)) e
-      ∙ sum-short (s .count) (64 - s .count) (λ k. getD (s .weights) k 0) (g .no-weight)
+      ∙ sum-short (s .count) (VOTERS - s .count) (λ k. getD (s .weights) k 0) (g .no-weight)
 
   -- an id has one place
   pub one-place : Good s → (j k : ℕ) → j < s .count → k < s .count → getD (s .ids) j 0 ≡ getD (s .ids) k 0 → j ≡ k

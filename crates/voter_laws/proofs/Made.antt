@@ -9,6 +9,7 @@ use native.Mathlib.Omega.{arith}
 use lib.Dec.{T, eqb, eqb→eq}
 use lib.ListN.{length, getD, List·getD-eq-default}
 use borrow.Author.Tests.{eq-eqb, ne-eqb, lt-ltb, le-ltb}
+use Rattle.sizes.specs.Sizes.{VOTERS, PAIRS}
 use Rattle.loops.specs.Sum.{sum}
 use Rattle.loops.proofs.Sums.{sum-cong, sum-at, sum-some}
 use Rattle.columns.specs.Lists.{padded}
@@ -30,7 +31,7 @@ use Rattle.voter_laws.proofs.Lookups.{Known, Unknown, get-cases}
 
 -- the refusals, each given exactly when the earlier ones are not
 module _ (ids weights : List ℕ) where
-  pub refused-1 : (length ids ≢ length weights) ⊎ (256 < length ids) → new ids weights ≡ refused 1
+  pub refused-1 : (length ids ≢ length weights) ⊎ (PAIRS < length ids) → new ids weights ≡ refused 1
   unfolding new
   refused-1 (inl h) = rw (ne-eqb _ _ h)
   refused-1 (inr h) = go (ℕ-discrete (length ids) (length weights))
@@ -39,7 +40,7 @@ module _ (ids weights : List ℕ) where
       go (yes e) = rw (eq-eqb _ _ e, lt-ltb _ _ h)
       go (no e) = rw (ne-eqb _ _ e)
 
-  module _ (same : length ids ≡ length weights) (few : length ids ≤ 256) where
+  module _ (same : length ids ≡ length weights) (few : length ids ≤ PAIRS) where
     pub refused-2 : most < total-of weights → new ids weights ≡ refused 2
     unfolding new
     refused-2 h = rw (eq-eqb _ _ same, le-ltb _ _ few, lt-ltb _ _ h)
@@ -50,11 +51,11 @@ module _ (ids weights : List ℕ) where
       refused-3 h = rw (eq-eqb _ _ same, le-ltb _ _ few, le-ltb _ _ fits, eq-eqb _ 0 h)
 
       module _ (some : total-of weights ≢ 0) where
-        pub refused-4 : 64 < length (voters ids weights (length ids)) → new ids weights ≡ refused 4
+        pub refused-4 : VOTERS < length (voters ids weights (length ids)) → new ids weights ≡ refused 4
         unfolding new
         refused-4 h = rw (eq-eqb _ _ same, le-ltb _ _ few, le-ltb _ _ fits, ne-eqb _ 0 some, lt-ltb _ _ h)
 
-        pub made : length (voters ids weights (length ids)) ≤ 64
+        pub made : length (voters ids weights (length ids)) ≤ VOTERS
             → new ids weights ≡ record { answer = Made; voters = laid (voters ids weights (length ids)) (total-of weights) }
         unfolding new
         made h = rw (eq-eqb _ _ same, le-ltb _ _ few, le-ltb _ _ fits, ne-eqb _ 0 some, le-ltb _ _ h)
@@ -62,21 +63,21 @@ module _ (ids weights : List ℕ) where
   -- what pairs have to be for a set to be made of them
   pub record Fit : Type 0 where
     pub same : length ids ≡ length weights
-    pub few : length ids ≤ 256
+    pub few : length ids ≤ PAIRS
     pub fits : total-of weights ≤ most
     pub some-weight : total-of weights ≢ 0
-    pub few-voters : length (voters ids weights (length ids)) ≤ 64
+    pub few-voters : length (voters ids weights (length ids)) ≤ VOTERS
 
   pub fit-made : Fit → new ids weights ≡ record { answer = Made; voters = laid (voters ids weights (length ids)) (total-of weights) }
   fit-made f = made (f .same) (f .few) (f .fits) (f .some-weight) (f .few-voters)
 
   pub new-cases : ((n : ℕ) × (new ids weights ≡ refused n)) ⊎ Fit
   new-cases =
-      one (ℕ-discrete (length ids) (length weights)) (decLe (length ids) 256) (decLe (total-of weights) most) (ℕ-discrete (total-of weights) 0)
-      (decLe (length (voters ids weights (length ids))) 64)
+      one (ℕ-discrete (length ids) (length weights)) (decLe (length ids) PAIRS) (decLe (total-of weights) most) (ℕ-discrete (total-of weights) 0)
+      (decLe (length (voters ids weights (length ids))) VOTERS)
     where
-      one : Dec (length ids ≡ length weights) → Dec (length ids ≤ 256) → Dec (total-of weights ≤ most) → Dec (total-of weights ≡ 0)
-          → Dec (length (voters ids weights (length ids)) ≤ 64) → ((n : ℕ) × (new ids weights ≡ refused n)) ⊎ Fit
+      one : Dec (length ids ≡ length weights) → Dec (length ids ≤ PAIRS) → Dec (total-of weights ≤ most) → Dec (total-of weights ≡ 0)
+          → Dec (length (voters ids weights (length ids)) ≤ VOTERS) → ((n : ℕ) × (new ids weights ≡ refused n)) ⊎ Fit
       one (no a) b c d e = inl (1, refused-1 (inl a))
       one (yes a) (no b) c d e = inl (1, refused-1 (inr (omega arith)))
       one (yes a) (yes b) (no c) d e = inl (2, refused-2 a b (omega arith))
@@ -95,17 +96,17 @@ module _ (ids weights : List ℕ) where
       go (inr f) = f
 
 -- voters by rising id as a set keep the shape rules
-pub laid-good : (ps : List Pair) (t : ℕ) → Rising 0 ps → Live ps → weight-in ps ≡ t → length ps ≤ 64 → Good (laid ps t)
+pub laid-good : (ps : List Pair) (t : ℕ) → Rising 0 ps → Live ps → weight-in ps ≡ t → length ps ≤ VOTERS → Good (laid ps t)
 laid-good ps t r v e l =
     record {
-      ids-sized = length-padded 64 (ids-of ps) (omega (arith, length-ids ps));
-      weights-sized = length-padded 64 (weights-of ps) (omega (arith, length-weights ps));
+      ids-sized = length-padded VOTERS (ids-of ps) (omega (arith, length-ids ps));
+      weights-sized = length-padded VOTERS (weights-of ps) (omega (arith, length-weights ps));
       few = l;
-      ids-rise = λ j k h m. rw (get-padded 64 (ids-of ps) j, get-padded 64 (ids-of ps) k) (rising-pair ps 0 j k r h m);
-      weigh-some = λ k h. rw (get-padded 64 (weights-of ps) k) (live-at ps k v h);
-      no-id = λ k h. get-padded 64 (ids-of ps) k ∙ List·getD-eq-default (ids-of ps) 0 (omega (arith, length-ids ps));
-      no-weight = λ k h. get-padded 64 (weights-of ps) k ∙ List·getD-eq-default (weights-of ps) 0 (omega (arith, length-weights ps));
-      total-is = sym (sum-cong 64 _ _ (λ k h. get-padded 64 (weights-of ps) k) ∙ sum-weights 64 ps l ∙ e);
+      ids-rise = λ j k h m. rw (get-padded VOTERS (ids-of ps) j, get-padded VOTERS (ids-of ps) k) (rising-pair ps 0 j k r h m);
+      weigh-some = λ k h. rw (get-padded VOTERS (weights-of ps) k) (live-at ps k v h);
+      no-id = λ k h. get-padded VOTERS (ids-of ps) k ∙ List·getD-eq-default (ids-of ps) 0 (omega (arith, length-ids ps));
+      no-weight = λ k h. get-padded VOTERS (weights-of ps) k ∙ List·getD-eq-default (weights-of ps) 0 (omega (arith, length-weights ps));
+      total-is = sym (sum-cong VOTERS _ _ (λ k h. get-padded VOTERS (weights-of ps) k) ∙ sum-weights VOTERS ps l ∙ e);
       threshold-is = refl;
     }
 
@@ -158,14 +159,14 @@ module _ (ids weights : List ℕ) (m : new ids weights .answer ≡ Made) where
   made-count = ap (λ (r : NewVoterSet). r .voters .count) shape
 
   made-id : (k : ℕ) → getD (new ids weights .voters .ids) k 0 ≡ getD (ids-of (voters ids weights (length ids))) k 0
-  made-id k = ap (λ (r : NewVoterSet). getD (r .voters .ids) k 0) shape ∙ get-padded 64 _ k
+  made-id k = ap (λ (r : NewVoterSet). getD (r .voters .ids) k 0) shape ∙ get-padded VOTERS _ k
 
   -- a voter's weight is what the pairs give its id
   pub made-weight : (k : ℕ) → k < new ids weights .voters .count
       → getD (new ids weights .voters .weights) k 0 ≡ weight-of ids weights (length ids) (getD (new ids weights .voters .ids) k 0)
   made-weight k h =
       let ps = voters ids weights (length ids) in
-      ap (λ (r : NewVoterSet). getD (r .voters .weights) k 0) shape ∙ get-padded 64 (weights-of ps) k
+      ap (λ (r : NewVoterSet). getD (r .voters .weights) k 0) shape ∙ get-padded VOTERS (weights-of ps) k
       ∙ held-at ps 0 k (voters-rising ids weights (length ids)) (omega (arith, made-count)) ∙ ap (λ (x : ℕ). held x ps) (sym (made-id k))
       ∙ voters-held ids weights _ (length ids)
 

@@ -9,6 +9,7 @@ use native.Mathlib.Omega.{arith}
 use lib.Dec.{eqb, ltb}
 use lib.ListN.{length, getD, set, length-set}
 use lib.Seq.{getD-set-same, getD-set-other}
+use Rattle.sizes.specs.Sizes.{PAIRS}
 use Rattle.loops.specs.Sum.{sum}
 use Rattle.loops.proofs.Sums.{sum-swap}
 use Rattle.weights.specs.Weights.{most}
@@ -24,7 +25,7 @@ use Rattle.voter_laws.proofs.Made.{refused-1}
 judged : ℕ → ℕ → List Pair → ℕ → NewVoterSet
 judged m n ps t =
     cond (not (eqb m n)) (refused 1)
-    (cond (ltb 256 m) (refused 1) (cond (ltb most t) (refused 2) (cond (eqb t 0) (refused 3) (seated ps t))))
+    (cond (ltb PAIRS m) (refused 1) (cond (ltb most t) (refused 2) (cond (eqb t 0) (refused 3) (seated ps t))))
 
 new-judged : (ids weights : List ℕ)
     → new ids weights ≡ judged (length ids) (length weights) (voters ids weights (length ids)) (total-of weights)

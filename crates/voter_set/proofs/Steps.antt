@@ -6,6 +6,7 @@ use Prim.Native.Nat.{ℕ, _≤_}
 use lib.Dec.{ltb}
 use lib.ListN.{length, getD, replicate, List·getD-eq-default}
 use borrow.Author.Tests.{le-ltb}
+use Rattle.sizes.specs.Sizes.{VOTERS}
 use Rattle.columns.specs.Lists.{padded}
 use Rattle.voter_pairs.specs.declared.Gathered.{Gathered}
 use Rattle.voter_pairs.specs.Voters.{Pair, ids-of, weights-of, gathered}
@@ -18,9 +19,9 @@ use Rattle.voter_set.specs.Voters.{laid, refused, seat, seated}
 use Rattle.voter_set.specs.Lookup.{nth}
 
 pub seat-gathered : (ps : List Pair) (t : ℕ) → seat (gathered ps) t ≡ seated ps t
-seat-gathered ps t = go (ltb 64 (length ps)) refl
+seat-gathered ps t = go (ltb VOTERS (length ps)) refl
   where
-    go : (b : Bool) → ltb 64 (length ps) ≡ b → seat (gathered ps) t ≡ seated ps t
+    go : (b : Bool) → ltb VOTERS (length ps) ≡ b → seat (gathered ps) t ≡ seated ps t
     go true e = rw e
     go false e = rw (e, e)
 

@@ -5,6 +5,7 @@ use mathlib.Core.List.{List}
 use Prim.Native.Nat.{ℕ, _-_}
 use lib.Dec.{eqb, leb, ltb}
 use lib.ListN.{length, getD}
+use Rattle.sizes.specs.Sizes.{VOTERS}
 use Rattle.loops.specs.All.{all}
 use Rattle.columns.specs.Blank.{blank}
 use Rattle.totals.specs.Totals.{total-of}
@@ -21,8 +22,8 @@ non-zero column n = all n (λ k. not (eqb (getD column k 0) 0))
 -- counts within sizes, ids rising, weights non-zero, unused places 0
 unfoldable pub placed : List ℕ → List ℕ → ℕ → Bool
 placed ids weights count =
-    eqb (length ids) 64 && (eqb (length weights) 64 && (leb count 64
-    && (rising ids count && (non-zero weights count && (blank ids count 64 && blank weights count 64)))))
+    eqb (length ids) VOTERS && (eqb (length weights) VOTERS && (leb count VOTERS
+    && (rising ids count && (non-zero weights count && (blank ids count VOTERS && blank weights count VOTERS)))))
 
 -- and total and T as above
 unfoldable pub sound : List ℕ → List ℕ → ℕ → ℕ → ℕ → Bool

@@ -2,8 +2,10 @@
 ghost use mathlib.Core.Path.{_≡_};
 ghost use Prim.Native.Nat.{_≤_};
 ghost use lib.ListN.{length};
+ghost use Rattle.sizes.specs.Sizes.{VOTERS};
 ghost use Rattle.columns.specs.Blank.{blank};
 ghost use Rattle.voter_shape.specs.Sound.{rising, non-zero, placed, sound};
+use sizes::VOTERS;
 use totals::Total;
 
 // Whether columns of ids and weights, with a count, a threshold and a total, keep the shape rules.
@@ -31,13 +33,13 @@ pub fn is_sound<'a>(
 fn placed<'a>(ids: &'a [u32], weights: &'a [u64], count: usize) -> bool
     ensures { λ r. ⌜ r ≡ placed (now (ids .entry)) (now (weights .entry)) count ⌝ }
 {
-    if ids.len() != 64 {
+    if ids.len() != VOTERS {
         return false;
     }
-    if weights.len() != 64 {
+    if weights.len() != VOTERS {
         return false;
     }
-    if 64 < count {
+    if VOTERS < count {
         return false;
     }
     if !rising(ids, count) {
@@ -75,22 +77,22 @@ fn non_zero(weights: &[u64], count: usize) -> bool
 }
 
 fn blank_ids(ids: &[u32], count: usize) -> bool
-    requires { ⌜ (count ≤ 64) × (length (now ids) ≡ 64) ⌝ }
-    ensures { λ r. ⌜ r ≡ blank (now (ids .entry)) count 64 ⌝ }
+    requires { ⌜ (count ≤ VOTERS) × (length (now ids) ≡ VOTERS) ⌝ }
+    ensures { λ r. ⌜ r ≡ blank (now (ids .entry)) count VOTERS ⌝ }
 {
     let mut ok = true;
-    for k in count..64 {
+    for k in count..VOTERS {
         ok = (ids[k] == 0) & ok;
     }
     ok
 }
 
 fn blank_weights(weights: &[u64], count: usize) -> bool
-    requires { ⌜ (count ≤ 64) × (length (now weights) ≡ 64) ⌝ }
-    ensures { λ r. ⌜ r ≡ blank (now (weights .entry)) count 64 ⌝ }
+    requires { ⌜ (count ≤ VOTERS) × (length (now weights) ≡ VOTERS) ⌝ }
+    ensures { λ r. ⌜ r ≡ blank (now (weights .entry)) count VOTERS ⌝ }
 {
     let mut ok = true;
-    for k in count..64 {
+    for k in count..VOTERS {
         ok = (weights[k] == 0) & ok;
     }
     ok

@@ -4,15 +4,15 @@ use mathlib.Core.Path.{_≡_, refl, sym, ap, subst, _∙_}
 use Prim.Native.Nat.{ℕ, _+_, _≤_}
 use native.Mathlib.Omega.{arith}
 use lib.ListN.{length}
+use Rattle.sizes.specs.Sizes.{BLOCKS}
 use Rattle.blocks.specs.declared.BlockTable.{BlockTable}
 use Rattle.context.specs.declared.Phase.{Phase}
 use Rattle.context.specs.declared.Phase.the-variants.{Prevote, Precommit}
 use Rattle.tracker.specs.declared.Pair.{Pair}
 use Rattle.judging.specs.declared.ImportResult.{ImportResult}
 use Rattle.judging.specs.declared.ImportResult.the-variants.{Outside, Counted, Duplicated, Equivocated, Ignored, Refused}
-use Rattle.importing.specs.Import.{Frame, Held, Taken, Ready, import}
+use Rattle.importing.specs.Import.{Frame, Held, Taken, Ready, import, with-table}
 use Rattle.held_laws.specs.Kept.{Kept, Untaken}
-use Rattle.held_laws.specs.Reached.{with-table}
 use Rattle.held_laws.proofs.Parts.{kept-ready}
 use Rattle.held_laws.proofs.Keeps.{import-keeps, import-refused}
 use Rattle.held_laws.proofs.Adds.{adding-keeps}
@@ -28,7 +28,7 @@ use Rattle.runs.proofs.Loops.{Going}
 use Rattle.growing.specs.Growing.{grown, added}
 use Rattle.growing.proofs.Adds.{added-tried}
 use Rattle.voting.specs.declared.Kind.the-variants as kind
-use Rattle.voting.specs.Voting.{Voting, pair-in, answered, turn-of, kind-of, counted, with-blocks, voted}
+use Rattle.voting.specs.Voting.{Voting, both, pair-in, answered, turn-of, kind-of, counted, with-blocks, voted}
 
 -- marks by what they are in this turn, and the bytes of their fields
 pub is-block : (m : Mark) → kind.Block ≡ kind-of m → m ≡ Bk
@@ -50,9 +50,6 @@ vote-size Op phase e = absurd (let z : _≡_ {A = ℕ} 0 1 = cc in omega arith)
 -- the voter is the first of four words or more
 pub vote-room : (m : Mark) (phase : Phase) (fs : List ℕ) → length fs ≡ size m → kind.Vote phase ≡ kind-of m → 0 + 4 ≤ length fs
 vote-room m phase fs l e = omega (arith, l ∙ vote-size m phase e)
-
-abbrev both : Frame → Held → Voting
-both f h = record { frame = f; held = h }
 
 module _ (f : Frame) (h : Held) where
   -- a Pv or Pc record
@@ -117,7 +114,7 @@ module _ (f : Frame) (h : Held) where
         ∙ counted-tried phase fs
         ∙ by-kind m phase fs b
 
-    pub block-room : f .table .count ≤ 256
+    pub block-room : f .table .count ≤ BLOCKS
     block-room = k .table .few
 
     pub block-done : (m : Mark) (fs : List ℕ) → kind.Block ≡ kind-of m → (t : BlockTable) (x : Turn)

@@ -8,8 +8,7 @@ use Rattle.context.specs.declared.Phase.the-variants.{Prevote, Precommit}
 use Rattle.tracker.specs.declared.Pair.{Pair}
 use Rattle.judging.specs.declared.ImportResult.{ImportResult}
 use Rattle.judging.specs.declared.ImportResult.the-variants.{Outside, Counted, Duplicated, Equivocated, Ignored, Refused}
-use Rattle.importing.specs.Import.{Frame, Held, import}
-use Rattle.held_laws.specs.Reached.{with-table}
+use Rattle.importing.specs.Import.{Frame, Held, import, with-table}
 use Rattle.marks.specs.declared.Mark.{Mark}
 use Rattle.marks.specs.declared.Mark.the-variants.{Vt, Rt, Bk, Op, Pv, Pc}
 use Rattle.marks.specs.declared.Turn.{Turn}
@@ -24,6 +23,9 @@ use Rattle.voting.specs.declared.Kind.the-variants as kind
 pub record Voting : Type 0 where
   pub frame : Frame
   pub held : Held
+
+abbrev pub both : Frame → Held → Voting
+both f h = record { frame = f; held = h }
 
 -- voter, target, number, signature
 abbrev pub pair-in : List ℕ → Pair
@@ -41,11 +43,11 @@ answered s Ignored = goes s
 -- a Pv or Pc record
 unfoldable pub counted : Phase → Voting → List ℕ → Next Voting
 counted phase v fs =
-    let t = import (v .frame) phase (word fs 0) (pair-in fs) (v .held) in answered (record { frame = v .frame; held = t .held }) (t .answer)
+    let t = import (v .frame) phase (word fs 0) (pair-in fs) (v .held) in answered (both (v .frame) (t .held)) (t .answer)
 
 -- a Bk record, as in the second turn
 abbrev pub with-blocks : Voting → Next BlockTable → Next Voting
-with-blocks v (goes t) = goes (record { frame = with-table (v .frame) t; held = v .held })
+with-blocks v (goes t) = goes (both (with-table (v .frame) t) (v .held))
 with-blocks v (stops n) = stops n
 with-blocks v leaves = leaves
 

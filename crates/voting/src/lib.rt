@@ -3,11 +3,13 @@
 ghost use mathlib.Core.Path.{_≡_};
 ghost use Prim.Native.Nat.{_≤_};
 ghost use lib.ListN.{length, drop};
+ghost use Rattle.lent.specs.Moment.{given, before, after};
+ghost use Rattle.importing.specs.Lent.{frame-at, held-at};
 ghost use Rattle.held_laws.specs.Kept.{Kept};
 ghost use Rattle.marks.specs.Marks as marks;
-ghost use Rattle.runs.specs.Run.{Run, ran};
+ghost use Rattle.runs.specs.Run.{ended, ran};
 ghost use Rattle.runs.specs.Tried.{Tried, tried};
-ghost use Rattle.voting.specs.Voting.{Voting, pair-in, turn-of, kind-of, voted};
+ghost use Rattle.voting.specs.Voting.{Voting, both, pair-in, turn-of, kind-of, voted};
 use context::Phase;
 use importing::Standing;
 use judging::ImportResult;
@@ -15,6 +17,11 @@ use marks::End;
 use marks::Mark;
 use marks::Record;
 use marks::Turn;
+use sizes::BLOCKS;
+use sizes::HISTORY;
+use sizes::VOTERS;
+use sizes::VOTES;
+use sizes::WORDS;
 use tracker::Pair;
 
 // What a mark is in this turn.
@@ -81,39 +88,47 @@ fn kind_of(mark: Mark) -> Kind
 
 // A record in the third turn.
 fn take<'a>(
-    voters: &'a [u32; 64],
-    weights: &'a [u64; 64],
+    voters: &'a [u32; VOTERS],
+    weights: &'a [u64; VOTERS],
     size: usize,
     total: u64,
     threshold: u64,
     number: u64,
-    ids: &mut [u32; 256],
-    heights: &mut [u32; 256],
-    parents: &mut [u8; 256],
+    ids: &mut [u32; BLOCKS],
+    numbers: &mut [u32; BLOCKS],
+    parents: &mut [u8; BLOCKS],
     blocks: usize,
     base: u8,
-    used: &mut [bool; 256],
-    above: &mut [u8; 256],
-    rows: &mut [[u64; 2]; 256],
-    order: &mut [u8; 256],
-    heads: &mut [u8; 256],
-    times: &mut [u8; 128],
-    places: &mut [u8; 128],
-    signatures: &mut [u64; 128],
-    targets: &mut [u32; 128],
-    numbers: &mut [u32; 128],
-    seconds: &mut [u64; 128],
-    entries: &mut [u8; 256],
+    used: &mut [bool; BLOCKS],
+    above: &mut [u8; BLOCKS],
+    rows: &mut [[u64; WORDS]; BLOCKS],
+    order: &mut [u8; BLOCKS],
+    heads: &mut [u8; BLOCKS],
+    counts: &mut [u8; VOTES],
+    first_block: &mut [u8; VOTES],
+    first_signature: &mut [u64; VOTES],
+    second_target: &mut [u32; VOTES],
+    second_number: &mut [u32; VOTES],
+    second_signature: &mut [u64; VOTES],
+    entries: &mut [u16; HISTORY],
     standing: Standing,
     mark: Mark,
     fields: &[u8],
 ) -> Took
-    requires { ⌜ Kept (record { number = number; voters = record { ids = now voters; weights = now weights; count = size; threshold = threshold; total = total }; table = record { ids = now ids; numbers = now heights; parents = now parents; count = blocks }; base = base }) (record { graph = record { used = now used; above = now above; rows = now rows; order = now order; listed = standing .listed; heads = now heads; tips = standing .tips }; votes = record { times = now times; places = now places; signatures = now signatures; targets = now targets; numbers = now numbers; seconds = now seconds }; entries = now entries; count = standing .count; equivocations = standing .equivocations; heard = standing .heard; answers = standing .answers }) × (length (now fields) ≡ marks.size mark) ⌝ }
-    ensures { λ r. ⌜ _≡_ {A = Tried Voting} (record { state = record { frame = record { number = number; voters = record { ids = now (voters .entry); weights = now (weights .entry); count = size; threshold = threshold; total = total }; table = record { ids = now (ids .exit); numbers = now (heights .exit); parents = now (parents .exit); count = r .blocks }; base = base }; held = record { graph = record { used = now (used .exit); above = now (above .exit); rows = now (rows .exit); order = now (order .exit); listed = r .standing .listed; heads = now (heads .exit); tips = r .standing .tips }; votes = record { times = now (times .exit); places = now (places .exit); signatures = now (signatures .exit); targets = now (targets .exit); numbers = now (numbers .exit); seconds = now (seconds .exit) }; entries = now (entries .exit); count = r .standing .count; equivocations = r .standing .equivocations; heard = r .standing .heard; answers = r .standing .answers } }; turn = r .turn }) (tried voted (record { frame = record { number = number; voters = record { ids = now (voters .entry); weights = now (weights .entry); count = size; threshold = threshold; total = total }; table = record { ids = now (ids .entry); numbers = now (heights .entry); parents = now (parents .entry); count = blocks }; base = base }; held = record { graph = record { used = now (used .entry); above = now (above .entry); rows = now (rows .entry); order = now (order .entry); listed = standing .listed; heads = now (heads .entry); tips = standing .tips }; votes = record { times = now (times .entry); places = now (places .entry); signatures = now (signatures .entry); targets = now (targets .entry); numbers = now (numbers .entry); seconds = now (seconds .entry) }; entries = now (entries .entry); count = standing .count; equivocations = standing .equivocations; heard = standing .heard; answers = standing .answers } }) mark (now (fields .entry))) ⌝ }
+    requires { ⌜ Kept (frame-at given voters weights size total threshold number ids numbers parents blocks base)
+        (held-at given used above rows order heads counts «first_block» «first_signature» «second_target» «second_number» «second_signature» entries standing)
+        × (length (now fields) ≡ marks.size mark) ⌝ }
+    ensures { λ r. ⌜ _≡_ {A = Tried Voting} (record {
+      state = both (frame-at after voters weights size total threshold number ids numbers parents (r .blocks) base)
+          (held-at after used above rows order heads counts «first_block» «first_signature» «second_target» «second_number» «second_signature» entries (r .standing));
+      turn = r .turn;
+    })
+        (tried voted (both (frame-at before voters weights size total threshold number ids numbers parents blocks base)
+        (held-at before used above rows order heads counts «first_block» «first_signature» «second_target» «second_number» «second_signature» entries standing)) mark (now (fields .entry))) ⌝ }
 {
     match kind_of(mark) {
         Kind::Block => {
-            let took = growing::add(ids, heights, parents, blocks, fields);
+            let took = growing::add(ids, numbers, parents, blocks, fields);
             let turn = took.turn;
             Took {
                 turn,
@@ -132,7 +147,7 @@ fn take<'a>(
                 threshold,
                 number,
                 ids,
-                heights,
+                numbers,
                 parents,
                 blocks,
                 base,
@@ -141,12 +156,12 @@ fn take<'a>(
                 rows,
                 order,
                 heads,
-                times,
-                places,
-                signatures,
-                targets,
-                numbers,
-                seconds,
+                counts,
+                first_block,
+                first_signature,
+                second_target,
+                second_number,
+                second_signature,
                 entries,
                 standing,
                 phase,
@@ -171,36 +186,42 @@ fn take<'a>(
 
 // The records of some bytes.
 pub fn run<'a>(
-    voters: &'a [u32; 64],
-    weights: &'a [u64; 64],
+    voters: &'a [u32; VOTERS],
+    weights: &'a [u64; VOTERS],
     size: usize,
     total: u64,
     threshold: u64,
     number: u64,
-    ids: &mut [u32; 256],
-    heights: &mut [u32; 256],
-    parents: &mut [u8; 256],
+    ids: &mut [u32; BLOCKS],
+    numbers: &mut [u32; BLOCKS],
+    parents: &mut [u8; BLOCKS],
     blocks: usize,
     base: u8,
-    used: &mut [bool; 256],
-    above: &mut [u8; 256],
-    rows: &mut [[u64; 2]; 256],
-    order: &mut [u8; 256],
-    heads: &mut [u8; 256],
-    times: &mut [u8; 128],
-    places: &mut [u8; 128],
-    signatures: &mut [u64; 128],
-    targets: &mut [u32; 128],
-    numbers: &mut [u32; 128],
-    seconds: &mut [u64; 128],
-    entries: &mut [u8; 256],
+    used: &mut [bool; BLOCKS],
+    above: &mut [u8; BLOCKS],
+    rows: &mut [[u64; WORDS]; BLOCKS],
+    order: &mut [u8; BLOCKS],
+    heads: &mut [u8; BLOCKS],
+    counts: &mut [u8; VOTES],
+    first_block: &mut [u8; VOTES],
+    first_signature: &mut [u64; VOTES],
+    second_target: &mut [u32; VOTES],
+    second_number: &mut [u32; VOTES],
+    second_signature: &mut [u64; VOTES],
+    entries: &mut [u16; HISTORY],
     standing: Standing,
     bytes: &[u8],
 ) -> Ran
-    requires { ⌜ Kept (record { number = number; voters = record { ids = now voters; weights = now weights; count = size; threshold = threshold; total = total }; table = record { ids = now ids; numbers = now heights; parents = now parents; count = blocks }; base = base }) (record { graph = record { used = now used; above = now above; rows = now rows; order = now order; listed = standing .listed; heads = now heads; tips = standing .tips }; votes = record { times = now times; places = now places; signatures = now signatures; targets = now targets; numbers = now numbers; seconds = now seconds }; entries = now entries; count = standing .count; equivocations = standing .equivocations; heard = standing .heard; answers = standing .answers }) ⌝ }
-    ensures { λ r. ⌜ _≡_ {A = Run Voting} (record { state = record { frame = record { number = number; voters = record { ids = now (voters .entry); weights = now (weights .entry); count = size; threshold = threshold; total = total }; table = record { ids = now (ids .exit); numbers = now (heights .exit); parents = now (parents .exit); count = r .blocks }; base = base }; held = record { graph = record { used = now (used .exit); above = now (above .exit); rows = now (rows .exit); order = now (order .exit); listed = r .standing .listed; heads = now (heads .exit); tips = r .standing .tips }; votes = record { times = now (times .exit); places = now (places .exit); signatures = now (signatures .exit); targets = now (targets .exit); numbers = now (numbers .exit); seconds = now (seconds .exit) }; entries = now (entries .exit); count = r .standing .count; equivocations = r .standing .equivocations; heard = r .standing .heard; answers = r .standing .answers } }; count = r .count; rest = drop (r .at) (now (bytes .entry)); end = r .end }) (ran voted (record { frame = record { number = number; voters = record { ids = now (voters .entry); weights = now (weights .entry); count = size; threshold = threshold; total = total }; table = record { ids = now (ids .entry); numbers = now (heights .entry); parents = now (parents .entry); count = blocks }; base = base }; held = record { graph = record { used = now (used .entry); above = now (above .entry); rows = now (rows .entry); order = now (order .entry); listed = standing .listed; heads = now (heads .entry); tips = standing .tips }; votes = record { times = now (times .entry); places = now (places .entry); signatures = now (signatures .entry); targets = now (targets .entry); numbers = now (numbers .entry); seconds = now (seconds .entry) }; entries = now (entries .entry); count = standing .count; equivocations = standing .equivocations; heard = standing .heard; answers = standing .answers } }) (now (bytes .entry))) ⌝ }
+    requires { ⌜ Kept (frame-at given voters weights size total threshold number ids numbers parents blocks base)
+        (held-at given used above rows order heads counts «first_block» «first_signature» «second_target» «second_number» «second_signature» entries standing) ⌝ }
+    ensures { λ r. ⌜ ended (both (frame-at after voters weights size total threshold number ids numbers parents (r .blocks) base)
+        (held-at after used above rows order heads counts «first_block» «first_signature» «second_target» «second_number» «second_signature» entries (r .standing)))
+        (r .count) (drop (r .at) (now (bytes .entry))) (r .end)
+        ≡ ran voted (both (frame-at before voters weights size total threshold number ids numbers parents blocks base)
+        (held-at before used above rows order heads counts «first_block» «first_signature» «second_target» «second_number» «second_signature» entries standing)) (now (bytes .entry)) ⌝ }
     ensures { λ r. ⌜ (r .count ≤ r .at) × (r .at ≤ length (now (bytes .entry))) ⌝ }
-    ensures { λ r. ⌜ Kept (record { number = number; voters = record { ids = now (voters .entry); weights = now (weights .entry); count = size; threshold = threshold; total = total }; table = record { ids = now (ids .exit); numbers = now (heights .exit); parents = now (parents .exit); count = r .blocks }; base = base }) (record { graph = record { used = now (used .exit); above = now (above .exit); rows = now (rows .exit); order = now (order .exit); listed = r .standing .listed; heads = now (heads .exit); tips = r .standing .tips }; votes = record { times = now (times .exit); places = now (places .exit); signatures = now (signatures .exit); targets = now (targets .exit); numbers = now (numbers .exit); seconds = now (seconds .exit) }; entries = now (entries .exit); count = r .standing .count; equivocations = r .standing .equivocations; heard = r .standing .heard; answers = r .standing .answers }) ⌝ }
+    ensures { λ r. ⌜ Kept (frame-at after voters weights size total threshold number ids numbers parents (r .blocks) base)
+        (held-at after used above rows order heads counts «first_block» «first_signature» «second_target» «second_number» «second_signature» entries (r .standing)) ⌝ }
 {
     let mut grown = blocks;
     let mut standing = standing;
@@ -226,7 +247,7 @@ pub fn run<'a>(
             threshold,
             number,
             ids,
-            heights,
+            numbers,
             parents,
             grown,
             base,
@@ -235,12 +256,12 @@ pub fn run<'a>(
             rows,
             order,
             heads,
-            times,
-            places,
-            signatures,
-            targets,
-            numbers,
-            seconds,
+            counts,
+            first_block,
+            first_signature,
+            second_target,
+            second_number,
+            second_signature,
             entries,
             standing,
             mark,

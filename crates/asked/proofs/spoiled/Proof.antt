@@ -1,15 +1,16 @@
 use borrow.Author.Needs.{needs}
-use Prim.Native.Nat.{_-_, _≤_}
+use Prim.Native.Nat.{_*_, _-_, _≤_}
+use Rattle.sizes.specs.Sizes.{HISTORY}
 use Rattle.asked.proofs.spoiled.Statement.{statement}
 use Rattle.asked.proofs.spoiled.Tie as tie
 use Rattle.asked.proofs.spoiled.Reads as reads
 use Rattle.asked.proofs.spoiled.Lts as lts
 
 abbrev Inv-loop : tie.InvT-loop
-Inv-loop out k₀ k = k ≤ 5632
+Inv-loop out k₀ k = k ≤ 22 * HISTORY
 
 abbrev μ-loop : tie.MeasureT-loop
-μ-loop out k₀ k = 5632 - k
+μ-loop out k₀ k = 22 * HISTORY - k
 
 loop-holds : tie.Need-loop-holds Inv-loop μ-loop
 loop-holds c = search needs

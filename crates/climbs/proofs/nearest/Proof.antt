@@ -3,6 +3,7 @@ use mathlib.Core.Path.{_≡_, refl, sym, ap, _∙_}
 use Prim.Native.Nat.{ℕ, _<_}
 use native.Mathlib.Omega.{arith}
 use lib.ListN.{getD}
+use Rattle.sizes.specs.Sizes.{BLOCKS}
 use Rattle.graph.specs.Search.{nearest}
 use Rattle.graph.proofs.Climbs.{until-here, until-next, until-root}
 use Rattle.climbs.specs.Places.{col, flag}
@@ -13,7 +14,7 @@ use Rattle.climbs.proofs.nearest.Lts as lts
 use Rattle.climbs.proofs.wide.Reads as wide-reads
 
 abbrev Inv-loop : tie.InvT-loop
-Inv-loop parents used block at₀ at = (at < 256) × (nearest (col parents) (flag used) block ≡ nearest (col parents) (flag used) at)
+Inv-loop parents used block at₀ at = (at < BLOCKS) × (nearest (col parents) (flag used) block ≡ nearest (col parents) (flag used) at)
 
 abbrev μ-loop : tie.MeasureT-loop
 μ-loop parents used block at₀ at = at

@@ -2,6 +2,7 @@ use borrow.Author.Needs.{needs}
 use mathlib.Core.Path.{_≡_, sym, ap, _∙_}
 use Prim.Native.Nat.{_<_, _≤_}
 use native.Mathlib.Omega.{arith}
+use Rattle.sizes.specs.Sizes.{BLOCKS}
 use Rattle.grandpa.specs.Tree.{below}
 use Rattle.climbs.specs.Places.{col}
 use Rattle.climbs.proofs.Climbs.{reach-next, reach-end}
@@ -12,7 +13,7 @@ use Rattle.climbs.proofs.reaches.Lts as lts
 use Rattle.climbs.proofs.wide.Reads as wide-reads
 
 abbrev Inv-loop : tie.InvT-loop
-Inv-loop parents block from wanted at₀ at = (wanted ≡ block) × (at < 256) × (below (col parents) block from ≡ below (col parents) block at)
+Inv-loop parents block from wanted at₀ at = (wanted ≡ block) × (at < BLOCKS) × (below (col parents) block from ≡ below (col parents) block at)
 
 abbrev μ-loop : tie.MeasureT-loop
 μ-loop parents block from wanted at₀ at = at

@@ -5,6 +5,7 @@ use native.Mathlib.Omega.{arith}
 use lib.Dec.{eqb}
 use lib.ListN.{getD}
 use borrow.Author.Tests.{eq-eqb, ne-eqb}
+use Rattle.sizes.specs.Sizes.{BLOCKS}
 use Rattle.graph.specs.Ghost.{towards}
 use Rattle.graph.proofs.Climbs.{until-here, until-next, until-root}
 use Rattle.climbs.specs.Places.{col}
@@ -15,7 +16,7 @@ use Rattle.climbs.proofs.towards.Lts as lts
 use Rattle.climbs.proofs.wide.Reads as wide-reads
 
 abbrev Inv-loop : tie.InvT-loop
-Inv-loop parents block from at₀ at = (at < 256) × (towards (col parents) block from ≡ towards (col parents) block at)
+Inv-loop parents block from at₀ at = (at < BLOCKS) × (towards (col parents) block from ≡ towards (col parents) block at)
 
 abbrev μ-loop : tie.MeasureT-loop
 μ-loop parents block from at₀ at = at

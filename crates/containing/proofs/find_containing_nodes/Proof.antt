@@ -5,6 +5,7 @@ use Prim.Native.Nat.{ℕ, _<_, _≤_, _-_}
 use native.Mathlib.Omega.{arith}
 use lib.ListN.{getD, length, length-set}
 use borrow.Author.Tests.{not-true, not-false}
+use Rattle.sizes.specs.Sizes.{BLOCKS}
 use Rattle.climbs.specs.Places.{col, Falls}
 use Rattle.containing.proofs.Search.{Way, way-start, way-off, way-met, way-up, way-bare, way-hit, upto, Between, between-start, between-same, between-more, between-end}
 use Rattle.containing.proofs.find_containing_nodes.Statement.{statement}
@@ -16,7 +17,7 @@ use Rattle.climbs.proofs.wide.Reads as wide-reads
 
 abbrev Inv-loop : tie.InvT-loop
 Inv-loop parents above heads tips block visited₀ places₀ count₀ k₀ node₀ visited places count k node =
-    (k₀ < tips) × (k ≡ k₀) × (places ≡ places₀) × (count ≡ count₀) × (length visited ≡ 256)
+    (k₀ < tips) × (k ≡ k₀) × (places ≡ places₀) × (count ≡ count₀) × (length visited ≡ BLOCKS)
     × ((falls : Falls above) → Between (col parents) (col above) falls block heads visited₀ places₀ count₀ k₀
     × Way (col parents) (col above) falls block visited (upto (col parents) (col above) falls block heads k₀) (getD heads k₀ 0) node)
 
@@ -25,7 +26,7 @@ abbrev μ-loop : tie.MeasureT-loop
 
 abbrev Inv-next : tie.InvT-next
 Inv-next parents above heads tips block visited₀ places₀ count₀ k₀ visited places count k =
-    (k ≤ tips) × (length visited ≡ 256) × ((falls : Falls above) → Between (col parents) (col above) falls block heads visited places count k)
+    (k ≤ tips) × (length visited ≡ BLOCKS) × ((falls : Falls above) → Between (col parents) (col above) falls block heads visited places count k)
 
 abbrev μ-next : tie.MeasureT-next
 μ-next parents above heads tips block visited₀ places₀ count₀ k₀ visited places count k = tips - k

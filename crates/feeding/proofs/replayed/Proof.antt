@@ -1,6 +1,7 @@
 use mathlib.Core.Path.{_∙_, sym, subst}
 use Prim.Native.Nat.{_≤_}
 use native.Mathlib.Omega.{arith}
+use Rattle.sizes.specs.Sizes.{PAIRS}
 use Rattle.pairing.specs.declared.Pairs.{Pairs}
 use Rattle.feeding.proofs.Goes.{run-short, replay-done}
 use borrow.Author.Needs.{needs}
@@ -18,7 +19,7 @@ no-pairs-requires c κs = search needs
 
 -- src/lib.rt:118:14
 from-voters-requires : tie.Need-from-voters-requires
-from-voters-requires c κs = subst (λ (p : Pairs). p .count ≤ 256) (sym (c .no-pairs .ensures)) (omega arith)
+from-voters-requires c κs = subst (λ (p : Pairs). p .count ≤ PAIRS) (sym (c .no-pairs .ensures)) (omega arith)
 
 -- src/lib.rt:118:5
 after-requires : tie.Need-after-requires

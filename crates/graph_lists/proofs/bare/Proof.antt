@@ -5,6 +5,7 @@ use Prim.Native.Nat.{_≤_, _-_}
 use native.Mathlib.Nat.{le-antisymm}
 use lib.ListN.{getD}
 use borrow.Author.Tests.{not-true, not-false}
+use Rattle.sizes.specs.Sizes.{BLOCKS}
 use Rattle.loops.specs.All.{all}
 use Rattle.loops.proofs.Alls.{all-none, all-more, all-false}
 use mathlib.Core.List.{[]}
@@ -16,10 +17,10 @@ use Rattle.graph_lists.proofs.bare.Lts as lts
 use Rattle.graph_lists.proofs.is_bare.Reads as is-bare-reads
 
 abbrev Inv-loop : tie.InvT-loop
-Inv-loop used rows k₀ k = (k ≤ 256) × (all k (λ j. getD used j false || zero-bits (getD rows j [])) ≡ true)
+Inv-loop used rows k₀ k = (k ≤ BLOCKS) × (all k (λ j. getD used j false || zero-bits (getD rows j [])) ≡ true)
 
 abbrev μ-loop : tie.MeasureT-loop
-μ-loop used rows k₀ k = 256 - k
+μ-loop used rows k₀ k = BLOCKS - k
 
 loop-holds : tie.Need-loop-holds Inv-loop μ-loop
 loop-holds c = (search needs, all-none _)

@@ -5,6 +5,7 @@ use Prim.Native.Nat.{_≤_, _-_}
 use native.Mathlib.Nat.{le-antisymm}
 use native.Mathlib.Omega.{arith}
 use borrow.Author.Tests.{eq-eqb, ne-eqb, le-ltb}
+use Rattle.sizes.specs.Sizes.{BLOCKS}
 use Rattle.loops.proofs.Alls.{all-false}
 use Rattle.columns.specs.Blank.{blank}
 use Rattle.columns.proofs.Blanks.{blank-none, blank-next}
@@ -14,10 +15,10 @@ use Rattle.graph_lists.proofs.blank.Reads as reads
 use Rattle.graph_lists.proofs.blank.Lts as lts
 
 abbrev Inv-loop : tie.InvT-loop
-Inv-loop places n k₀ k = (n ≤ k) × (k ≤ 256) × (true ≡ blank places n k)
+Inv-loop places n k₀ k = (n ≤ k) × (k ≤ BLOCKS) × (true ≡ blank places n k)
 
 abbrev μ-loop : tie.MeasureT-loop
-μ-loop places n k₀ k = 256 - k
+μ-loop places n k₀ k = BLOCKS - k
 
 loop-holds : tie.Need-loop-holds Inv-loop μ-loop
 loop-holds c = (search needs, search needs, blank-none _ _)

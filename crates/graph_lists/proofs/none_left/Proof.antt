@@ -4,6 +4,7 @@ use mathlib.Core.Path.{_≡_, sym, ap}
 use Prim.Native.Nat.{_≤_, _-_}
 use native.Mathlib.Nat.{le-antisymm}
 use lib.ListN.{getD}
+use Rattle.sizes.specs.Sizes.{BLOCKS}
 use Rattle.loops.specs.All.{all}
 use Rattle.loops.proofs.Alls.{all-none, all-more, all-false}
 use Rattle.graph_lists.specs.Listed.{none-left}
@@ -13,10 +14,10 @@ use Rattle.graph_lists.proofs.none_left.Reads as reads
 use Rattle.graph_lists.proofs.none_left.Lts as lts
 
 abbrev Inv-loop : tie.InvT-loop
-Inv-loop marks k₀ k = (k ≤ 256) × (all k (λ j. not (getD marks j false)) ≡ true)
+Inv-loop marks k₀ k = (k ≤ BLOCKS) × (all k (λ j. not (getD marks j false)) ≡ true)
 
 abbrev μ-loop : tie.MeasureT-loop
-μ-loop marks k₀ k = 256 - k
+μ-loop marks k₀ k = BLOCKS - k
 
 loop-holds : tie.Need-loop-holds Inv-loop μ-loop
 loop-holds c = (search needs, all-none _)

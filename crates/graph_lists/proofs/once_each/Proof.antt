@@ -38,7 +38,7 @@ array-read-if1 c = omega (arith, c .wide .ensures .1)
 
 returns : tie.Need-returns Inv-loop μ-loop
 returns c =
-    once-false _ _ _ _ (c .before .before .before .loop-test .taken)
+    once-false _ _ _ _ _ (c .before .before .before .loop-test .taken)
     (fresh-is _ _ _ _ _ (c .before .before .before .before .loop .inv .1) (c .before .wide .ensures .0) ∙ not-true _ (c .if1 .taken))
 
 array-write-left : tie.Need-array-write-left Inv-loop μ-loop
@@ -63,7 +63,7 @@ none-left-requires c κs = search needs
 returns-2 : tie.Need-returns-2 Inv-loop μ-loop
 returns-2 c =
     c .none-left .ensures
-    ∙ once-end _ _ _ _ _ (le-antisymm (c .before .before .before .loop .inv .0) (c .before .before .loop-test .left)) (c .before .before .before .loop .inv .2) (c .before .before .before .loop .inv .1)
+    ∙ once-end _ _ _ _ _ _ (le-antisymm (c .before .before .before .loop .inv .0) (c .before .before .loop-test .left)) (c .before .before .before .loop .inv .2) (c .before .before .before .loop .inv .1)
 
 pub once-each-spec : {M : Type 1} → statement M
 once-each-spec =

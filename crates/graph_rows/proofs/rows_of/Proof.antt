@@ -4,6 +4,7 @@ use Prim.Native.Nat.{_-_, _≤_}
 use native.Mathlib.Omega.{arith}
 use lib.ListN.{length}
 use borrow.Author.Needs.{needs}
+use Rattle.sizes.specs.Sizes.{BLOCKS}
 use Rattle.graph_rows.specs.Rows.{bits-of, row-of, words-of, rows-of}
 use Rattle.graph_rows.proofs.Copies.{Copied, copied-none, copied-more, copied-all}
 use Rattle.graph_rows.proofs.rows_of.Statement.{statement}
@@ -12,10 +13,10 @@ use Rattle.graph_rows.proofs.rows_of.Reads as reads
 use Rattle.graph_rows.proofs.rows_of.Lts as lts
 
 abbrev Inv-loop : tie.InvT-loop
-Inv-loop words rows₀ place₀ rows place = (place ≤ 256) × Copied row-of [] words rows place
+Inv-loop words rows₀ place₀ rows place = (place ≤ BLOCKS) × Copied row-of [] words rows place
 
 abbrev μ-loop : tie.MeasureT-loop
-μ-loop words rows₀ place₀ rows place = 256 - place
+μ-loop words rows₀ place₀ rows place = BLOCKS - place
 
 -- src/lib.rt:30:5
 loop-holds : tie.Need-loop-holds Inv-loop μ-loop

@@ -4,6 +4,7 @@ use Prim.Native.Nat.{_-_, _≤_}
 use native.Mathlib.Omega.{arith}
 use lib.ListN.{length}
 use borrow.Author.Needs.{needs}
+use Rattle.sizes.specs.Sizes.{BLOCKS}
 use Rattle.graph_rows.specs.Rows.{bits-of, row-of, words-of}
 use Rattle.graph_rows.proofs.Copies.{Copied, copied-none, copied-more, copied-all, Twos, twos-none, twos-more, words-paired}
 use Rattle.graph_rows.proofs.words_of.Statement.{statement}
@@ -13,10 +14,10 @@ use Rattle.graph_rows.proofs.words_of.Lts as lts
 use Rattle.graph_rows.proofs.pair.Reads as pair-reads
 
 abbrev Inv-loop : tie.InvT-loop
-Inv-loop rows words₀ k₀ words k = (k ≤ 256) × Copied bits-of (row-of []) rows words k × Twos rows k
+Inv-loop rows words₀ k₀ words k = (k ≤ BLOCKS) × Copied bits-of (row-of []) rows words k × Twos rows k
 
 abbrev μ-loop : tie.MeasureT-loop
-μ-loop rows words₀ k₀ words k = 256 - k
+μ-loop rows words₀ k₀ words k = BLOCKS - k
 
 -- src/lib.rt:17:5
 loop-holds : tie.Need-loop-holds Inv-loop μ-loop

@@ -7,6 +7,7 @@ use native.Mathlib.Omega.{arith}
 use lib.Dec.{ltb}
 use lib.ListN.{getD}
 use borrow.Author.Tests.{not-true, not-false}
+use Rattle.sizes.specs.Sizes.{BLOCKS}
 use Rattle.loops.specs.All.{all}
 use Rattle.loops.proofs.Alls.{all-none, all-more, all-false}
 use Rattle.grandpa.specs.Tree.{below}
@@ -23,10 +24,10 @@ use Rattle.climbs.proofs.wide.Reads as wide-reads
 
 abbrev Inv-loop : tie.InvT-loop
 Inv-loop parents count base used top under₀ k₀ under k =
-    (k ≤ 256) × (all k (λ j. not (getD used j false) || (ltb j count && below (col parents) base j)) ≡ true) × Under (col parents) base under k
+    (k ≤ BLOCKS) × (all k (λ j. not (getD used j false) || (ltb j count && below (col parents) base j)) ≡ true) × Under (col parents) base under k
 
 abbrev μ-loop : tie.MeasureT-loop
-μ-loop parents count base used top under₀ k₀ under k = 256 - k
+μ-loop parents count base used top under₀ k₀ under k = BLOCKS - k
 
 wide-requires : tie.Need-wide-requires Inv-loop μ-loop
 wide-requires c κs = search needs

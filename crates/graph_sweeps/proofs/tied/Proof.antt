@@ -7,6 +7,7 @@ use native.Mathlib.Omega.{arith}
 use lib.Dec.{eqb}
 use lib.ListN.{getD}
 use borrow.Author.Tests.{not-true, not-false}
+use Rattle.sizes.specs.Sizes.{BLOCKS}
 use Rattle.loops.specs.All.{all}
 use Rattle.loops.proofs.Alls.{all-none, all-more, all-false}
 use Rattle.graph.specs.Search.{nearest}
@@ -23,11 +24,11 @@ use Rattle.climbs.proofs.wide.Reads as wide-reads
 
 abbrev Inv-loop : tie.InvT-loop
 Inv-loop parents used rest above near₀ k₀ near k =
-    (k ≤ 256) × (all k (λ j. eqb (getD above j 0) (cond (getD rest j false) (nearest (col parents) (flag used) (getD parents j 0)) 0)) ≡ true)
+    (k ≤ BLOCKS) × (all k (λ j. eqb (getD above j 0) (cond (getD rest j false) (nearest (col parents) (flag used) (getD parents j 0)) 0)) ≡ true)
     × Near (col parents) (flag used) near k
 
 abbrev μ-loop : tie.MeasureT-loop
-μ-loop parents used rest above near₀ k₀ near k = 256 - k
+μ-loop parents used rest above near₀ k₀ near k = BLOCKS - k
 
 loop-holds : tie.Need-loop-holds Inv-loop μ-loop
 loop-holds c = (search needs, all-none _, near-none _ (c .pre) _)

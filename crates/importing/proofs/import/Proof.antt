@@ -10,7 +10,8 @@ use Rattle.importing.proofs.import.Lts as lts
 use Rattle.bitfield.proofs.set_bit.Reads as set-bit-reads
 use Rattle.importing.proofs.updated.Reads as updated-reads
 use Rattle.importing.proofs.with_heard.Reads as with-heard-reads
-use Rattle.judging.proofs.index.Reads as index-reads
+use Rattle.context.proofs.index.Reads as index-reads
+use Rattle.layouts.proofs.entry.Reads as entry-reads
 use Rattle.judging.proofs.judge.Reads as judge-reads
 use Rattle.vote_insert.proofs.insert.Reads as insert-reads
 
@@ -31,36 +32,34 @@ index-requires : tie.Need-index-requires
 index-requires c κs = first-place _ _ (c .before .before .before .before .before .before .before .before .before .before .before .before .before .before .pre) _ _ _ _ _ (sym (c .before .before .before .before .before .before .judge .ensures) ∙ c .before .verdict2 .given .1)
 
 -- src/lib.rt:173:13
-element-write-times : tie.Need-element-write-times
-element-write-times c = search needs
+element-write-counts : tie.Need-element-write-counts
+element-write-counts c = search needs
 
 -- src/lib.rt:174:13
-element-write-places : tie.Need-element-write-places
-element-write-places c = search needs
+element-write-first-block : tie.Need-element-write-first-block
+element-write-first-block c = search needs
 
 -- src/lib.rt:175:13
-mul-signatures : tie.Need-mul-signatures
-mul-signatures c = search needs
+mul-first-signature : tie.Need-mul-first-signature
+mul-first-signature c = search needs
 
 -- src/lib.rt:175:13
-element-write-signatures : tie.Need-element-write-signatures
-element-write-signatures c = search needs
+element-write-first-signature : tie.Need-element-write-first-signature
+element-write-first-signature c = search needs
 
--- src/lib.rt:176:31
+entry-requires : tie.Need-entry-requires
+entry-requires c κs = (c .before .index .ensures .1, omega arith)
+
 mul-entries : tie.Need-mul-entries
-mul-entries c = search needs
-
--- src/lib.rt:176:30
-cast-entries : tie.Need-cast-entries
-cast-entries c = search needs
+mul-entries c = omega (arith, first-room _ _ (c .before .before .before .before .before .before .before .before .before .before .before .before .before .before .before .before .before .pre) _ _ _ _ _ (sym (c .before .before .before .before .before .before .before .before .before .judge .ensures) ∙ c .before .before .before .before .verdict2 .given .1))
 
 -- src/lib.rt:176:13
 element-write-entries : tie.Need-element-write-entries
-element-write-entries c = first-room _ _ (c .before .before .before .before .before .before .before .before .before .before .before .before .before .before .before .before .pre) _ _ _ _ _ (sym (c .before .before .before .before .before .before .before .before .judge .ensures) ∙ c .before .before .before .verdict2 .given .1)
+element-write-entries c = first-room _ _ (c .before .before .before .before .before .before .before .before .before .before .before .before .before .before .before .before .before .pre) _ _ _ _ _ (sym (c .before .before .before .before .before .before .before .before .before .judge .ensures) ∙ c .before .before .before .before .verdict2 .given .1)
 
 -- src/lib.rt:177:17
 insert-requires : tie.Need-insert-requires
-insert-requires c κs = first-insertable _ _ (c .before .before .before .before .before .before .before .before .before .before .before .before .before .before .before .before .before .before .before .before .before .pre) _ _ _ _ _ (sym (c .before .before .before .before .before .before .before .before .before .before .before .before .before .judge .ensures) ∙ c .before .before .before .before .before .before .before .before .verdict2 .given .1)
+insert-requires c κs = first-insertable _ _ (c .before .before .before .before .before .before .before .before .before .before .before .before .before .before .before .before .before .before .before .before .before .before .pre) _ _ _ _ _ (sym (c .before .before .before .before .before .before .before .before .before .before .before .before .before .before .judge .ensures) ∙ c .before .before .before .before .before .before .before .before .before .verdict2 .given .1)
 
 -- src/lib.rt:193:17
 with-heard-requires : tie.Need-with-heard-requires
@@ -68,11 +67,11 @@ with-heard-requires c κs = search needs
 
 -- src/lib.rt:194:17
 updated-requires : tie.Need-updated-requires
-updated-requires c κs = (first-grounded _ _ (c .before .before .before .before .before .before .before .before .before .before .before .before .before .before .before .before .before .before .before .before .before .before .before .before .before .before .before .before .pre) _ _ _ _ _ (sym (c .before .before .before .before .before .before .before .before .before .before .before .before .before .before .before .before .before .before .before .before .judge .ensures) ∙ c .before .before .before .before .before .before .before .before .before .before .before .before .before .before .before .verdict2 .given .1) _ _ (c .before .before .before .before .before .before .insert .ensures), c .before .before .before .before .before .before .before .before .before .before .before .before .before .before .before .before .before .before .before .before .before .before .before .before .before .before .before .before .pre .stored)
+updated-requires c κs = (first-grounded _ _ (c .before .before .before .before .before .before .before .before .before .before .before .before .before .before .before .before .before .before .before .before .before .before .before .before .before .before .before .before .before .pre) _ _ _ _ _ (sym (c .before .before .before .before .before .before .before .before .before .before .before .before .before .before .before .before .before .before .before .before .before .judge .ensures) ∙ c .before .before .before .before .before .before .before .before .before .before .before .before .before .before .before .before .verdict2 .given .1) _ _ (c .before .before .before .before .before .before .insert .ensures), c .before .before .before .before .before .before .before .before .before .before .before .before .before .before .before .before .before .before .before .before .before .before .before .before .before .before .before .before .before .pre .stored)
 
 -- src/lib.rt:217:28
 add-t63 : tie.Need-add-t63
-add-t63 c = omega (arith, first-room _ _ (c .before .before .before .before .before .before .before .before .before .before .before .before .before .before .before .before .before .before .before .before .before .before .before .before .before .before .before .before .before .pre) _ _ _ _ _ (sym (c .before .before .before .before .before .before .before .before .before .before .before .before .before .before .before .before .before .before .before .before .before .judge .ensures) ∙ c .before .before .before .before .before .before .before .before .before .before .before .before .before .before .before .before .verdict2 .given .1))
+add-t63 c = omega (arith, first-room _ _ (c .before .before .before .before .before .before .before .before .before .before .before .before .before .before .before .before .before .before .before .before .before .before .before .before .before .before .before .before .before .before .pre) _ _ _ _ _ (sym (c .before .before .before .before .before .before .before .before .before .before .before .before .before .before .before .before .before .before .before .before .before .before .judge .ensures) ∙ c .before .before .before .before .before .before .before .before .before .before .before .before .before .before .before .before .before .verdict2 .given .1))
 
 -- src/lib.rt:224:25
 enum-known-verdict-3 : tie.Need-enum-known-verdict-3
@@ -83,48 +82,42 @@ index-requires-2 : tie.Need-index-requires-2
 index-requires-2 c κs = second-place _ _ (c .before .before .before .before .before .before .before .before .before .before .before .before .before .before .pre) _ _ _ _ _ (sym (c .before .before .before .before .before .before .judge .ensures) ∙ c .before .verdict3 .given .1)
 
 -- src/lib.rt:226:13
-element-write-times-2 : tie.Need-element-write-times-2
-element-write-times-2 c = search needs
+element-write-counts-2 : tie.Need-element-write-counts-2
+element-write-counts-2 c = search needs
 
 -- src/lib.rt:227:13
-mul-targets : tie.Need-mul-targets
-mul-targets c = search needs
+mul-second-target : tie.Need-mul-second-target
+mul-second-target c = search needs
 
 -- src/lib.rt:227:13
-element-write-targets : tie.Need-element-write-targets
-element-write-targets c = search needs
+element-write-second-target : tie.Need-element-write-second-target
+element-write-second-target c = search needs
 
 -- src/lib.rt:228:13
-mul-numbers : tie.Need-mul-numbers
-mul-numbers c = search needs
+mul-second-number : tie.Need-mul-second-number
+mul-second-number c = search needs
 
 -- src/lib.rt:228:13
-element-write-numbers : tie.Need-element-write-numbers
-element-write-numbers c = search needs
+element-write-second-number : tie.Need-element-write-second-number
+element-write-second-number c = search needs
 
 -- src/lib.rt:229:13
-mul-seconds : tie.Need-mul-seconds
-mul-seconds c = search needs
+mul-second-signature : tie.Need-mul-second-signature
+mul-second-signature c = search needs
 
 -- src/lib.rt:229:13
-element-write-seconds : tie.Need-element-write-seconds
-element-write-seconds c = search needs
+element-write-second-signature : tie.Need-element-write-second-signature
+element-write-second-signature c = search needs
 
--- src/lib.rt:230:31
+entry-requires-2 : tie.Need-entry-requires-2
+entry-requires-2 c κs = (c .index2 .ensures .1, omega arith)
+
 mul-entries-2 : tie.Need-mul-entries-2
-mul-entries-2 c = search needs
-
--- src/lib.rt:230:31
-add-entries : tie.Need-add-entries
-add-entries c = search needs
-
--- src/lib.rt:230:30
-cast-entries-2 : tie.Need-cast-entries-2
-cast-entries-2 c = search needs
+mul-entries-2 c = omega (arith, second-room _ _ (c .before .before .before .before .before .before .before .before .before .before .before .before .before .before .before .before .pre) _ _ _ _ _ (sym (c .before .before .before .before .before .before .before .before .judge .ensures) ∙ c .before .before .before .verdict3 .given .1))
 
 -- src/lib.rt:230:13
 element-write-entries-2 : tie.Need-element-write-entries-2
-element-write-entries-2 c = second-room _ _ (c .before .before .before .before .before .before .before .before .before .before .before .before .before .before .before .pre) _ _ _ _ _ (sym (c .before .before .before .before .before .before .before .judge .ensures) ∙ c .before .before .verdict3 .given .1)
+element-write-entries-2 c = second-room _ _ (c .before .before .before .before .before .before .before .before .before .before .before .before .before .before .before .before .pre) _ _ _ _ _ (sym (c .before .before .before .before .before .before .before .before .judge .ensures) ∙ c .before .before .before .verdict3 .given .1)
 
 -- src/lib.rt:233:17
 set-bit-requires : tie.Need-set-bit-requires
@@ -132,11 +125,11 @@ set-bit-requires c κs = search needs
 
 -- src/lib.rt:234:17
 updated-requires-2 : tie.Need-updated-requires-2
-updated-requires-2 c κs = (second-grounded _ _ (c .before .before .before .before .before .before .before .before .before .before .before .before .before .before .before .before .before .before .before .before .before .pre) _ _ _ _ _ (sym (c .before .before .before .before .before .before .before .before .before .before .before .before .before .judge .ensures) ∙ c .before .before .before .before .before .before .before .before .verdict3 .given .1), c .before .before .before .before .before .before .before .before .before .before .before .before .before .before .before .before .before .before .before .before .before .pre .stored)
+updated-requires-2 c κs = (second-grounded _ _ (c .before .before .before .before .before .before .before .before .before .before .before .before .before .before .before .before .before .before .before .before .before .before .pre) _ _ _ _ _ (sym (c .before .before .before .before .before .before .before .before .before .before .before .before .before .before .judge .ensures) ∙ c .before .before .before .before .before .before .before .before .before .verdict3 .given .1), c .before .before .before .before .before .before .before .before .before .before .before .before .before .before .before .before .before .before .before .before .before .before .pre .stored)
 
 -- src/lib.rt:263:28
 add-t83 : tie.Need-add-t83
-add-t83 c = omega (arith, second-room _ _ (c .before .before .before .before .before .before .before .before .before .before .before .before .before .before .before .before .before .before .before .before .before .before .pre) _ _ _ _ _ (sym (c .before .before .before .before .before .before .before .before .before .before .before .before .before .before .judge .ensures) ∙ c .before .before .before .before .before .before .before .before .before .verdict3 .given .1))
+add-t83 c = omega (arith, second-room _ _ (c .before .before .before .before .before .before .before .before .before .before .before .before .before .before .before .before .before .before .before .before .before .before .before .pre) _ _ _ _ _ (sym (c .before .before .before .before .before .before .before .before .before .before .before .before .before .before .before .judge .ensures) ∙ c .before .before .before .before .before .before .before .before .before .before .verdict3 .given .1))
 
 -- src/lib.rt:113:1
 returns : tie.Need-returns
@@ -145,11 +138,11 @@ returns c = rw (sym (c .before .before .before .before .before .before .judge .e
 
 -- src/lib.rt:113:1
 returns-2 : tie.Need-returns-2
-returns-2 c = first-done _ _ (c .before .before .before .before .before .before .before .before .before .before .before .before .before .before .before .before .before .before .before .before .before .before .before .before .before .before .before .before .before .pre) _ _ _ _ _ (sym (c .before .before .before .before .before .before .before .before .before .before .before .before .before .before .before .before .before .before .before .before .before .judge .ensures) ∙ c .before .before .before .before .before .before .before .before .before .before .before .before .before .before .before .before .verdict2 .given .1) _ (c .before .before .before .before .before .before .before .before .before .before .before .before .before .before .index .ensures .0) _ (c .before .before .before .before .before .before .before .insert .ensures) _ (c .before .before .before .before .before .before .with-heard .ensures) _ (c .updated .ensures)
+returns-2 c = first-done _ _ (c .before .before .before .before .before .before .before .before .before .before .before .before .before .before .before .before .before .before .before .before .before .before .before .before .before .before .before .before .before .before .pre) _ _ _ _ _ (sym (c .before .before .before .before .before .before .before .before .before .before .before .before .before .before .before .before .before .before .before .before .before .before .judge .ensures) ∙ c .before .before .before .before .before .before .before .before .before .before .before .before .before .before .before .before .before .verdict2 .given .1) _ (c .before .before .before .before .before .before .before .before .before .before .before .before .before .before .before .index .ensures .0) _ (c .before .before .before .before .before .before .before .before .before .before .before .before .before .entry .ensures .0) _ (c .before .before .before .before .before .before .before .insert .ensures) _ (c .before .before .before .before .before .before .with-heard .ensures) _ (c .updated .ensures)
 
 -- src/lib.rt:113:1
 returns-3 : tie.Need-returns-3
-returns-3 c = second-done _ _ (c .before .before .before .before .before .before .before .before .before .before .before .before .before .before .before .before .before .before .before .before .before .before .pre) _ _ _ _ _ (sym (c .before .before .before .before .before .before .before .before .before .before .before .before .before .before .judge .ensures) ∙ c .before .before .before .before .before .before .before .before .before .verdict3 .given .1) _ (c .before .before .before .before .before .before .before .index2 .ensures .0) _ (c .before .before .before .before .before .before .set-bit .ensures) _ (c .updated2 .ensures)
+returns-3 c = second-done _ _ (c .before .before .before .before .before .before .before .before .before .before .before .before .before .before .before .before .before .before .before .before .before .before .before .pre) _ _ _ _ _ (sym (c .before .before .before .before .before .before .before .before .before .before .before .before .before .before .before .judge .ensures) ∙ c .before .before .before .before .before .before .before .before .before .before .verdict3 .given .1) _ (c .before .before .before .before .before .before .before .before .index2 .ensures .0) _ (c .before .before .before .before .before .before .before .entry2 .ensures .0) _ (c .before .before .before .before .before .before .set-bit .ensures) _ (c .updated2 .ensures)
 
 pub import-spec : {M : Type 1} → statement M
 import-spec =
@@ -159,12 +152,12 @@ import-spec =
     enum-known-verdict
     enum-known-verdict-2
     index-requires
-    element-write-times
-    element-write-places
-    mul-signatures
-    element-write-signatures
+    element-write-counts
+    element-write-first-block
+    mul-first-signature
+    element-write-first-signature
+    entry-requires
     mul-entries
-    cast-entries
     element-write-entries
     insert-requires
     with-heard-requires
@@ -172,16 +165,15 @@ import-spec =
     add-t63
     enum-known-verdict-3
     index-requires-2
-    element-write-times-2
-    mul-targets
-    element-write-targets
-    mul-numbers
-    element-write-numbers
-    mul-seconds
-    element-write-seconds
+    element-write-counts-2
+    mul-second-target
+    element-write-second-target
+    mul-second-number
+    element-write-second-number
+    mul-second-signature
+    element-write-second-signature
+    entry-requires-2
     mul-entries-2
-    add-entries
-    cast-entries-2
     element-write-entries-2
     set-bit-requires
     updated-requires-2

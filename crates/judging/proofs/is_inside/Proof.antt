@@ -3,6 +3,7 @@ use borrow.Author.Needs.{needs}
 use mathlib.Core.Path.{_≡_, sym, ap, _∙_}
 use Prim.Native.Nat.{_<_, _≤_}
 use native.Mathlib.Omega.{arith}
+use Rattle.sizes.specs.Sizes.{BLOCKS}
 use Rattle.loops.proofs.Tests.{T-true, true-T}
 use Rattle.grandpa.specs.Tree.{below}
 use Rattle.nodes.specs.Nodes.{col}
@@ -14,7 +15,7 @@ use Rattle.judging.proofs.is_inside.Lts as lts
 use Rattle.climbs.proofs.wide.Reads as wide-reads
 
 abbrev Inv-loop : tie.InvT-loop
-Inv-loop parents used base block wanted at₀ at = (wanted ≡ base) × (at < 256) × (below (col parents) base block ≡ below (col parents) base at)
+Inv-loop parents used base block wanted at₀ at = (wanted ≡ base) × (at < BLOCKS) × (below (col parents) base block ≡ below (col parents) base at)
 
 abbrev μ-loop : tie.MeasureT-loop
 μ-loop parents used base block wanted at₀ at = at

@@ -7,7 +7,7 @@ use Rattle.judging.proofs.judge.Statement.{statement}
 use Rattle.judging.proofs.judge.Tie as tie
 use Rattle.judging.proofs.judge.Reads as reads
 use Rattle.judging.proofs.judge.Lts as lts
-use Rattle.judging.proofs.index.Reads as index-reads
+use Rattle.context.proofs.index.Reads as index-reads
 use Rattle.judging.proofs.judge_first.Reads as judge-first-reads
 use Rattle.tracker.proofs.add_vote.Reads as add-vote-reads
 use Rattle.tracker.proofs.recorded.Reads as recorded-reads

@@ -1,74 +1,101 @@
 use borrow.Author.Needs.{needs}
 use mathlib.Core.Path.{_≡_, refl, sym, ap, _∙_}
-use Prim.Native.Nat.{ℕ, _<_, _≤_, _-_, _+_, _*_}
+use Prim.Native.Nat.{ℕ, _<_, _≤_, _-_, _+_}
+use native.Mathlib.Nat.{le-antisymm}
 use native.Mathlib.Omega.{arith}
+use borrow.Author.Needs.{needs}
 use borrow.Author.Tests.{not-true, not-false}
-use Rattle.listing.specs.Entries.{counting, wants}
-use Rattle.nodes.proofs.Lists.{Laid, laid-none, laid-room}
-use Rattle.listing.proofs.Countings.{counted-skip, counted-next, counted-end}
+use Rattle.loops.specs.Listing.{keep}
+use Rattle.entry_lists.specs.Entries.{entered}
+use Rattle.listing.specs.Entries.{by-voter, wants}
+use Rattle.listing.proofs.Voters.{laid-none, laid-room, turn-silent, turn-unsuited, laid-single, laid-both}
 use Rattle.listing.proofs.entries_of.Statement.{statement}
 use Rattle.listing.proofs.entries_of.Tie as tie
-use Rattle.listing.proofs.entries_of.Reads as reads
-use Rattle.listing.proofs.entries_of.Lts as lts
-use Rattle.listing.proofs.wants.Reads as wants-reads
 
 abbrev Inv-loop : tie.InvT-loop
-Inv-loop times places parents size wanted entries₀ n₀ e₀ e-end entries n e = (e ≤ e-end) × Laid (wants times places parents wanted) (counting 256) e entries n
+Inv-loop counts first-block parents size wanted phase entries₀ n₀ place₀ entries n place =
+    (place ≤ size) × (record { entries = entries; count = n } ≡ entered (keep (wants counts first-block parents wanted) (by-voter phase place)))
 
 abbrev μ-loop : tie.MeasureT-loop
-μ-loop times places parents size wanted entries₀ n₀ e₀ e-end entries n e = e-end - e
+μ-loop counts first-block parents size wanted phase entries₀ n₀ place₀ entries n place = size - place
 
--- src/lib.rt:98:17
-mul-e-end : tie.Need-mul-e-end Inv-loop μ-loop
-mul-e-end c = omega (arith, c .pre .1)
+phase-in-requires : tie.Need-phase-in-requires Inv-loop μ-loop
+phase-in-requires c κs = search needs
 
--- src/lib.rt:98:5
 loop-holds : tie.Need-loop-holds Inv-loop μ-loop
 loop-holds c = (search needs, laid-none _ _)
 
--- src/lib.rt:99:13
-wants-requires : tie.Need-wants-requires Inv-loop μ-loop
-wants-requires c κs = (c .before .before .pre .0, omega (arith, c .loop-test .taken, c .before .before .pre .1))
+index-requires : tie.Need-index-requires Inv-loop μ-loop
+index-requires c κs = omega (arith, c .loop-test .taken, c .before .before .before .pre .1)
 
--- src/lib.rt:100:13
-add-e : tie.Need-add-e Inv-loop μ-loop
-add-e c = omega (arith, c .before .before .loop-test .taken, c .before .before .before .before .pre .1)
+element-copy-out-pairs : tie.Need-element-copy-out-pairs Inv-loop μ-loop
+element-copy-out-pairs c = c .index .ensures .1
 
--- src/lib.rt:98:5
+add-place : tie.Need-add-place Inv-loop μ-loop
+add-place c = search needs
+
 loop-less : tie.Need-loop-less Inv-loop μ-loop
-loop-less c = omega (arith, c .before .before .loop-test .taken)
+loop-less c = search needs
 
--- src/lib.rt:98:5
 loop-again : tie.Need-loop-again Inv-loop μ-loop
-loop-again c = (omega (arith, c .before .before .loop-test .taken), counted-skip _ _ _ _ (omega (arith, c .before .before .loop-test .taken, c .before .before .before .before .pre .1)) (sym (c .before .wants .ensures) ∙ not-true _ (c .if1 .taken)) (c .before .before .before .loop .inv .1))
+loop-again c = (omega (arith, c .before .before .before .loop-test .taken), c .before .before .before .before .loop .inv .1 ∙ ap entered (sym (turn-silent _ _ _ _ _ _ _ (c .before .before .index .ensures .0) (c .if1 .taken))))
 
--- src/lib.rt:102:22
-cast-entries : tie.Need-cast-entries Inv-loop μ-loop
-cast-entries c = omega (arith, c .before .before .loop-test .taken, c .before .before .before .before .pre .1)
+suits-requires : tie.Need-suits-requires Inv-loop μ-loop
+suits-requires c κs = (c .before .before .before .before .before .before .pre .0, c .before .before .index .ensures .1)
 
--- src/lib.rt:102:9
-array-write-entries : tie.Need-array-write-entries Inv-loop μ-loop
-array-write-entries c = omega (arith, laid-room _ _ _ _ _ (c .before .before .before .loop .inv .1), c .before .before .loop-test .taken, c .before .before .before .before .pre .1)
+add-place-2 : tie.Need-add-place-2 Inv-loop μ-loop
+add-place-2 c = search needs
 
--- src/lib.rt:103:13
-add-n : tie.Need-add-n Inv-loop μ-loop
-add-n c = omega (arith, laid-room _ _ _ _ _ (c .before .before .before .loop .inv .1), c .before .before .loop-test .taken, c .before .before .before .before .pre .1)
-
--- src/lib.rt:98:9
-add-e-2 : tie.Need-add-e-2 Inv-loop μ-loop
-add-e-2 c = omega (arith, c .before .before .loop-test .taken, c .before .before .before .before .pre .1)
-
--- src/lib.rt:98:5
 loop-less-2 : tie.Need-loop-less-2 Inv-loop μ-loop
-loop-less-2 c = omega (arith, c .before .before .loop-test .taken)
+loop-less-2 c = search needs
 
--- src/lib.rt:98:5
 loop-again-2 : tie.Need-loop-again-2 Inv-loop μ-loop
-loop-again-2 c = (omega (arith, c .before .before .loop-test .taken), counted-next _ _ _ _ (omega (arith, c .before .before .loop-test .taken, c .before .before .before .before .pre .1)) (sym (c .before .wants .ensures) ∙ not-false _ (c .if1 .left)) (c .before .before .before .loop .inv .1))
+loop-again-2 c = (omega (arith, c .before .before .before .before .before .loop-test .taken), c .before .before .before .before .before .before .loop .inv .1 ∙ ap entered (sym (turn-unsuited _ _ _ _ _ _ _ (c .before .before .before .before .index .ensures .0) (sym (c .before .suits .ensures) ∙ not-true _ (c .if2 .taken)))))
 
--- src/lib.rt:86:1
+entry-requires : tie.Need-entry-requires Inv-loop μ-loop
+entry-requires c κs = (c .before .before .before .before .index .ensures .1, omega arith)
+
+mul-entries : tie.Need-mul-entries Inv-loop μ-loop
+mul-entries c = omega (arith, laid-room _ _ _ _ _ (c .before .before .before .before .before .before .before .loop .inv .1) (omega (arith, c .before .before .before .before .before .before .loop-test .taken, c .before .before .before .before .before .before .before .before .before .pre .1)))
+
+array-write-entries : tie.Need-array-write-entries Inv-loop μ-loop
+array-write-entries c = omega (arith, laid-room _ _ _ _ _ (c .before .before .before .before .before .before .before .loop .inv .1) (omega (arith, c .before .before .before .before .before .before .loop-test .taken, c .before .before .before .before .before .before .before .before .before .pre .1)))
+
+add-n : tie.Need-add-n Inv-loop μ-loop
+add-n c = omega (arith, laid-room _ _ _ _ _ (c .before .before .before .before .before .before .before .loop .inv .1) (omega (arith, c .before .before .before .before .before .before .loop-test .taken, c .before .before .before .before .before .before .before .before .before .pre .1)))
+
+add-place-3 : tie.Need-add-place-3 Inv-loop μ-loop
+add-place-3 c = search needs
+
+loop-less-3 : tie.Need-loop-less-3 Inv-loop μ-loop
+loop-less-3 c = search needs
+
+loop-again-3 : tie.Need-loop-again-3 Inv-loop μ-loop
+loop-again-3 c = (omega (arith, c .before .before .before .before .before .before .before .loop-test .taken), laid-single _ _ _ _ _ _ _ (c .before .before .before .before .before .before .index .ensures .0) _ _ (c .before .before .before .before .before .before .before .before .loop .inv .1) (omega (arith, c .before .before .before .before .before .before .before .loop-test .taken, c .before .before .before .before .before .before .before .before .before .before .pre .1)) _ (c .before .entry .ensures .0) (c .if3 .taken) (sym (c .before .before .before .suits .ensures) ∙ not-false _ (c .before .before .if2 .left)))
+
+entry-requires-2 : tie.Need-entry-requires-2 Inv-loop μ-loop
+entry-requires-2 c κs = (c .before .before .before .before .before .before .index .ensures .1, omega arith)
+
+mul-entries-2 : tie.Need-mul-entries-2 Inv-loop μ-loop
+mul-entries-2 c = omega (arith, laid-room _ _ _ _ _ (c .before .before .before .before .before .before .before .before .before .loop .inv .1) (omega (arith, c .before .before .before .before .before .before .before .before .loop-test .taken, c .before .before .before .before .before .before .before .before .before .before .before .pre .1)))
+
+array-write-entries-2 : tie.Need-array-write-entries-2 Inv-loop μ-loop
+array-write-entries-2 c = omega (arith, laid-room _ _ _ _ _ (c .before .before .before .before .before .before .before .before .before .loop .inv .1) (omega (arith, c .before .before .before .before .before .before .before .before .loop-test .taken, c .before .before .before .before .before .before .before .before .before .before .before .pre .1)))
+
+add-n-2 : tie.Need-add-n-2 Inv-loop μ-loop
+add-n-2 c = omega (arith, laid-room _ _ _ _ _ (c .before .before .before .before .before .before .before .before .before .loop .inv .1) (omega (arith, c .before .before .before .before .before .before .before .before .loop-test .taken, c .before .before .before .before .before .before .before .before .before .before .before .pre .1)))
+
+add-place-4 : tie.Need-add-place-4 Inv-loop μ-loop
+add-place-4 c = search needs
+
+loop-less-4 : tie.Need-loop-less-4 Inv-loop μ-loop
+loop-less-4 c = search needs
+
+loop-again-4 : tie.Need-loop-again-4 Inv-loop μ-loop
+loop-again-4 c = (omega (arith, c .before .before .before .before .before .before .before .before .loop-test .taken), laid-both _ _ _ _ _ _ _ (c .before .before .before .before .before .before .before .index .ensures .0) _ _ (c .before .before .before .before .before .before .before .before .before .loop .inv .1) (omega (arith, c .before .before .before .before .before .before .before .before .loop-test .taken, c .before .before .before .before .before .before .before .before .before .before .before .pre .1)) _ _ (c .before .before .entry .ensures .0) (c .entry2 .ensures .0) (omega (arith, c .before .before .before .before .before .if1 .left, c .before .if3 .left)) (sym (c .before .before .before .before .suits .ensures) ∙ not-false _ (c .before .before .before .if2 .left)))
+
 returns : tie.Need-returns Inv-loop μ-loop
-returns c = counted-end _ _ _ _ _ (c .before .loop .inv .1) (omega (arith, c .before .loop .inv .0, c .loop-test .left)) (omega (arith, c .before .before .pre .1))
+returns c = c .before .loop .inv .1 ∙ rw (c .before .before .phase-in .ensures, le-antisymm (c .before .loop .inv .0) (c .loop-test .left))
 
 pub entries-of-spec : {M : Type 1} → statement M
 entries-of-spec =
@@ -76,16 +103,29 @@ entries-of-spec =
     (tie.spec
     Inv-loop
     μ-loop
-    mul-e-end
+    phase-in-requires
     loop-holds
-    wants-requires
-    add-e
+    index-requires
+    element-copy-out-pairs
+    add-place
     loop-less
     loop-again
-    cast-entries
-    array-write-entries
-    add-n
-    add-e-2
+    suits-requires
+    add-place-2
     loop-less-2
     loop-again-2
+    entry-requires
+    mul-entries
+    array-write-entries
+    add-n
+    add-place-3
+    loop-less-3
+    loop-again-3
+    entry-requires-2
+    mul-entries-2
+    array-write-entries-2
+    add-n-2
+    add-place-4
+    loop-less-4
+    loop-again-4
     returns)

@@ -3,6 +3,7 @@ use native.Mathlib.Nat.{le-refl}
 use Prim.Native.Nat.{_-_, _≤_}
 use lib.ListN.{length}
 use borrow.Author.Needs.{needs}
+use Rattle.sizes.specs.Sizes.{PAIRS}
 use Rattle.marks.proofs.Readings.{whole-means}
 use Rattle.runs.proofs.Turns.{whole-fields}
 use Rattle.runs.proofs.Loops.{Going, going-start, tried-goes, going-on, going-over, going-ends, going-fits}
@@ -19,7 +20,7 @@ use Rattle.pairing.proofs.take.Reads as take-reads
 abbrev Inv-loop : tie.InvT-loop
 Inv-loop ids₀ weights₀ count bytes pairs₀ taken₀ at₀ ids weights pairs taken at =
     Going paired (record { ids = ids₀; weights = weights₀; count = count }) bytes (record { ids = ids; weights = weights; count = pairs }) taken at
-    × (pairs ≤ 256)
+    × (pairs ≤ PAIRS)
 
 abbrev μ-loop : tie.MeasureT-loop
 μ-loop ids₀ weights₀ count bytes pairs₀ taken₀ at₀ ids weights pairs taken at = length bytes - at

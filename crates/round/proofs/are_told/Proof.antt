@@ -1,4 +1,4 @@
-use Rattle.vote_shape_laws.specs.Recorded.{Wide}
+use Rattle.tracker.specs.Votes.{Wide}
 use borrow.Author.Needs.{needs}
 use Rattle.round.proofs.are_told.Statement.{statement}
 use Rattle.round.proofs.are_told.Tie as tie
@@ -12,7 +12,7 @@ is-voted-requires c κs = c .before .before .before .before .before .before .bef
 
 -- src/lib.rt:165:1
 returns : tie.Need-returns
-returns c = (c .is-voted .ensures, record { times-size = search needs; places-size = search needs; signatures-size = search needs; targets-size = search needs; numbers-size = search (needs, c .before .before .before .before .before .before .before .before .before .before .good .1 .1 .1 .1 .1 .0); seconds-size = search (needs, c .before .before .before .before .before .before .before .before .before .before .good .1 .1 .1 .1 .1 .0) }, search needs, search needs)
+returns c = (c .is-voted .ensures, record { counts-size = search needs; first-block-size = search needs; first-signature-size = search needs; second-target-size = search needs; second-number-size = search (needs, c .before .before .before .before .before .before .before .before .before .before .good .1 .1 .1 .1 .1 .0); second-signature-size = search (needs, c .before .before .before .before .before .before .before .before .before .before .good .1 .1 .1 .1 .1 .0) }, search needs, search needs)
 
 pub are-told-spec : {M : Type 1} → statement M
 are-told-spec = tie.close (tie.spec is-voted-requires returns)

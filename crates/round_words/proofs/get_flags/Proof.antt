@@ -1,5 +1,6 @@
 use borrow.Author.Needs.{needs}
 use Prim.Native.Nat.{_-_, _≤_}
+use Rattle.sizes.specs.Sizes.{BLOCKS}
 use Rattle.round_words.proofs.get_flags.Statement.{statement}
 use Rattle.round_words.proofs.get_flags.Tie as tie
 use Rattle.round_words.proofs.get_flags.Reads as reads
@@ -8,10 +9,10 @@ use Rattle.round_words.proofs.after.Reads as after-reads
 use Rattle.round_words.proofs.get.Reads as get-reads
 
 abbrev Inv-loop : tie.InvT-loop
-Inv-loop flat at column₀ k₀ column k = k ≤ 256
+Inv-loop flat at column₀ k₀ column k = k ≤ BLOCKS
 
 abbrev μ-loop : tie.MeasureT-loop
-μ-loop flat at column₀ k₀ column k = 256 - k
+μ-loop flat at column₀ k₀ column k = BLOCKS - k
 
 loop-holds : tie.Need-loop-holds Inv-loop μ-loop
 loop-holds c = search needs

@@ -2,6 +2,7 @@ use borrow.Author.Needs.{needs}
 use mathlib.Core.Path.{_≡_}
 use Prim.Native.Nat.{_-_, _≤_}
 use lib.ListN.{length}
+use Rattle.sizes.specs.Sizes.{BLOCKS}
 use Rattle.round_words.proofs.get_rows.Statement.{statement}
 use Rattle.round_words.proofs.get_rows.Tie as tie
 use Rattle.round_words.proofs.get_rows.Reads as reads
@@ -10,10 +11,10 @@ use Rattle.round_words.proofs.after.Reads as after-reads
 use Rattle.round_words.proofs.row_at.Reads as row-at-reads
 
 abbrev Inv-loop : tie.InvT-loop
-Inv-loop flat at rows₀ k₀ rows k = (k ≤ 256) × (length rows ≡ 256)
+Inv-loop flat at rows₀ k₀ rows k = (k ≤ BLOCKS) × (length rows ≡ BLOCKS)
 
 abbrev μ-loop : tie.MeasureT-loop
-μ-loop flat at rows₀ k₀ rows k = 256 - k
+μ-loop flat at rows₀ k₀ rows k = BLOCKS - k
 
 loop-holds : tie.Need-loop-holds Inv-loop μ-loop
 loop-holds c = search needs

@@ -1,5 +1,6 @@
 use borrow.Author.Needs.{needs}
 use Prim.Native.Nat.{_-_, _≤_}
+use Rattle.sizes.specs.Sizes.{BLOCKS}
 use Rattle.round_words.proofs.put_flags.Statement.{statement}
 use Rattle.round_words.proofs.put_flags.Tie as tie
 use Rattle.round_words.proofs.put_flags.Reads as reads
@@ -9,10 +10,10 @@ use Rattle.round_words.proofs.bit.Reads as bit-reads
 use Rattle.round_words.proofs.put.Reads as put-reads
 
 abbrev Inv-loop : tie.InvT-loop
-Inv-loop flat₀ at column k₀ flat k = k ≤ 256
+Inv-loop flat₀ at column k₀ flat k = k ≤ BLOCKS
 
 abbrev μ-loop : tie.MeasureT-loop
-μ-loop flat₀ at column k₀ flat k = 256 - k
+μ-loop flat₀ at column k₀ flat k = BLOCKS - k
 
 loop-holds : tie.Need-loop-holds Inv-loop μ-loop
 loop-holds c = search needs

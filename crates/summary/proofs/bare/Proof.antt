@@ -1,14 +1,14 @@
-use mathlib.Core.Path.{refl}
+use borrow.Author.Needs.{needs}
 use Rattle.summary.specs.Summary.{bare}
 use Rattle.summary.proofs.bare.Statement.{statement}
 use Rattle.summary.proofs.bare.Tie as tie
-use Rattle.summary.proofs.bare.Reads as reads
-use Rattle.summary.proofs.bare.Lts as lts
 
--- src/lib.rt:37:1
+no-heard-requires : tie.Need-no-heard-requires
+no-heard-requires c κs = search needs
+
 returns : tie.Need-returns
 unfolding bare
-returns c = refl
+returns c = rw (c .no-heard .ensures)
 
 pub bare-spec : {M : Type 1} → statement M
-bare-spec = tie.close (tie.spec returns)
+bare-spec = tie.close (tie.spec no-heard-requires returns)

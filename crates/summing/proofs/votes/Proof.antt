@@ -6,7 +6,7 @@ use Rattle.summing.proofs.votes.Reads as reads
 use Rattle.summing.proofs.votes.Lts as lts
 use Rattle.climbs.proofs.wide.Reads as wide-reads
 use Rattle.feeding.proofs.more.Reads as more-reads
-use Rattle.summing.proofs.blank.Reads as blank-reads
+use Rattle.importing.proofs.blank.Reads as blank-reads
 use Rattle.summing.proofs.closed.Reads as closed-reads
 use Rattle.voting.proofs.run.Reads as run-reads
 

@@ -15,64 +15,59 @@ use Rattle.two_views.proofs.differs.Reads as differs-reads
 use Rattle.weights.proofs.VoteWeight.add.Reads as add-reads
 
 abbrev Inv-loop : tie.InvT-loop
-Inv-loop times places others theirs weights size sum₀ voter₀ sum voter = (voter ≤ size) × (sum ≤ most) × (sum ≡ differing times places others theirs weights voter)
+Inv-loop counts first-block others theirs weights size sum₀ voter₀ sum voter = (voter ≤ size) × (sum ≤ most) × (sum ≡ differing counts first-block others theirs weights voter)
 
 abbrev μ-loop : tie.MeasureT-loop
-μ-loop times places others theirs weights size sum₀ voter₀ sum voter = size - voter
+μ-loop counts first-block others theirs weights size sum₀ voter₀ sum voter = size - voter
 
--- src/lib.rt:58:5
+-- src/lib.rt:50:5
 loop-holds : tie.Need-loop-holds Inv-loop μ-loop
-loop-holds c = (omega arith, omega arith, differing-none (c .args .times .now) (c .args .places .now) (c .args .others .now) (c .args .theirs .now) (c .args .weights .now))
+loop-holds c = (omega arith, omega arith, differing-none (c .args .counts .now) (c .args .first-block .now) (c .args .others .now) (c .args .theirs .now) (c .args .weights .now))
 
--- src/lib.rt:59:52
-mul-differs : tie.Need-mul-differs Inv-loop μ-loop
-mul-differs c = search needs
+index-requires : tie.Need-index-requires Inv-loop μ-loop
+index-requires c κs = omega (arith, c .loop-test .taken, c .before .before .pre)
 
--- src/lib.rt:59:52
-add-differs : tie.Need-add-differs Inv-loop μ-loop
-add-differs c = search needs
-
--- src/lib.rt:59:13
+-- src/lib.rt:51:13
 differs-requires : tie.Need-differs-requires Inv-loop μ-loop
-differs-requires c κs = search needs
+differs-requires c κs = c .index .ensures .1
 
--- src/lib.rt:60:13
+-- src/lib.rt:52:13
 add-voter : tie.Need-add-voter Inv-loop μ-loop
 add-voter c = search needs
 
--- src/lib.rt:58:5
+-- src/lib.rt:50:5
 loop-less : tie.Need-loop-less Inv-loop μ-loop
 loop-less c = search needs
 
--- src/lib.rt:58:5
+-- src/lib.rt:50:5
 loop-again : tie.Need-loop-again Inv-loop μ-loop
-loop-again c = (omega arith, c .before .before .before .loop .inv .1, c .before .before .before .loop .inv .2 ∙ differing-skip _ _ _ _ _ _ (sym (c .before .differs .ensures) ∙ not-true _ (c .if1 .taken)))
+loop-again c = (omega arith, c .before .before .before .before .loop .inv .1, c .before .before .before .before .loop .inv .2 ∙ differing-skip _ _ _ _ _ _ (rw (← c .before .before .index .ensures .0) (sym (c .before .differs .ensures) ∙ not-true _ (c .if1 .taken))))
 
--- src/lib.rt:62:51
-mul-t11 : tie.Need-mul-t11 Inv-loop μ-loop
-mul-t11 c = search needs
+-- src/lib.rt:54:51
+mul-t15 : tie.Need-mul-t15 Inv-loop μ-loop
+mul-t15 c = search needs
 
--- src/lib.rt:62:51
-element-copy-out-t17 : tie.Need-element-copy-out-t17 Inv-loop μ-loop
-element-copy-out-t17 c = search needs
+-- src/lib.rt:54:51
+element-copy-out-t18 : tie.Need-element-copy-out-t18 Inv-loop μ-loop
+element-copy-out-t18 c = search needs
 
--- src/lib.rt:62:13
+-- src/lib.rt:54:13
 add-requires : tie.Need-add-requires Inv-loop μ-loop
 add-requires c κs = search needs
 
--- src/lib.rt:58:9
+-- src/lib.rt:50:9
 add-voter-2 : tie.Need-add-voter-2 Inv-loop μ-loop
 add-voter-2 c = search needs
 
--- src/lib.rt:58:5
+-- src/lib.rt:50:5
 loop-less-2 : tie.Need-loop-less-2 Inv-loop μ-loop
 loop-less-2 c = search needs
 
--- src/lib.rt:58:5
+-- src/lib.rt:50:5
 loop-again-2 : tie.Need-loop-again-2 Inv-loop μ-loop
-loop-again-2 c = (omega arith, omega (arith, c .add .ensures), rw (c .add .ensures, c .before .before .before .before .before .loop .inv .2) (differing-more _ _ _ _ _ _ (sym (c .before .before .before .differs .ensures) ∙ not-false _ (c .before .before .if1 .left))))
+loop-again-2 c = (omega arith, omega (arith, c .add .ensures), rw (c .add .ensures, c .before .before .before .before .before .before .loop .inv .2) (differing-more _ _ _ _ _ _ (rw (← c .before .before .before .before .index .ensures .0) (sym (c .before .before .before .differs .ensures) ∙ not-false _ (c .before .before .if1 .left)))))
 
--- src/lib.rt:46:1
+-- src/lib.rt:38:1
 returns : tie.Need-returns Inv-loop μ-loop
 returns c = let e = le-antisymm (c .before .loop .inv .0) (c .loop-test .left) in c .before .loop .inv .2 ∙ ap (differing _ _ _ _ _) e
 
@@ -83,14 +78,13 @@ differing-spec =
     Inv-loop
     μ-loop
     loop-holds
-    mul-differs
-    add-differs
+    index-requires
     differs-requires
     add-voter
     loop-less
     loop-again
-    mul-t11
-    element-copy-out-t17
+    mul-t15
+    element-copy-out-t18
     add-requires
     add-voter-2
     loop-less-2

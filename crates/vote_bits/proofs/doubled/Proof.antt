@@ -6,6 +6,7 @@ use lib.Dec.{ltb}
 use lib.ListN.{getD}
 use mathlib.Core.Path.{_∙_}
 use borrow.Author.Tests.{lt-ltb, le-ltb}
+use Rattle.sizes.specs.Sizes.{VOTES}
 use Rattle.vote_bits.specs.Told.{doubled}
 use Rattle.vote_bits.proofs.Sames.{Put, put-none, put-skip, put-next, put-all}
 use Rattle.vote_bits.proofs.doubled.Statement.{statement}
@@ -16,10 +17,10 @@ use Rattle.bitfield.proofs.set_bit.Reads as set-bit-reads
 use Rattle.vote_bits.proofs.same_bits.Reads as same-bits-reads
 
 abbrev Inv-loop : tie.InvT-loop
-Inv-loop times equivocations bits₀ j₀ bits j = (j ≤ 128) × Put bits (λ i. ltb 1 (getD times i 0)) j
+Inv-loop counts equivocations bits₀ j₀ bits j = (j ≤ VOTES) × Put bits (λ i. ltb 1 (getD counts i 0)) j
 
 abbrev μ-loop : tie.MeasureT-loop
-μ-loop times equivocations bits₀ j₀ bits j = 128 - j
+μ-loop counts equivocations bits₀ j₀ bits j = VOTES - j
 
 -- src/lib.rt:259:5
 loop-holds : tie.Need-loop-holds Inv-loop μ-loop

@@ -3,6 +3,7 @@ use borrow.Author.Needs.{needs}
 use mathlib.Core.Path.{_≡_, sym}
 use Prim.Native.Nat.{_≤_, _<_, _-_}
 use native.Mathlib.Omega.{arith}
+use Rattle.sizes.specs.Sizes.{VOTES, BLOCKS}
 use Rattle.nodes.specs.Nodes.{Falls}
 use Rattle.vote_bits.specs.Told.{Held}
 use Rattle.vote_bits.proofs.Joins.{sofar, cast-none, cast-skip, cast-put, Small, small-none, small-skip, small-next, lifted, lift-start, lift-next, lift-end}
@@ -15,20 +16,20 @@ use Rattle.bitfield.proofs.set_bit.Reads as set-bit-reads
 use Rattle.climbs.proofs.wide.Reads as wide-reads
 
 abbrev Inv-loop : tie.InvT-loop
-Inv-loop parents times places rows₀ j₀ rows j = (j ≤ 128) × Small times places j × Held rows (sofar times places j)
+Inv-loop parents counts first-block rows₀ j₀ rows j = (j ≤ VOTES) × Small counts first-block j × Held rows (sofar counts first-block j)
 
 abbrev μ-loop : tie.MeasureT-loop
-μ-loop parents times places rows₀ j₀ rows j = 128 - j
+μ-loop parents counts first-block rows₀ j₀ rows j = VOTES - j
 
 abbrev Inv-loop2 : tie.InvT-loop2
-Inv-loop2 parents times places rows₀ low₀ rows low = (low < 256) × ((falls : Falls parents) → Held rows (lifted parents times places falls low))
+Inv-loop2 parents counts first-block rows₀ low₀ rows low = (low < BLOCKS) × ((falls : Falls parents) → Held rows (lifted parents counts first-block falls low))
 
 abbrev μ-loop2 : tie.MeasureT-loop2
-μ-loop2 parents times places rows₀ low₀ rows low = low
+μ-loop2 parents counts first-block rows₀ low₀ rows low = low
 
 -- src/lib.rt:217:5
 loop-holds : tie.Need-loop-holds Inv-loop μ-loop Inv-loop2 μ-loop2
-loop-holds c = (search needs, small-none (c .args .times .now) (c .args .places .now), cast-none (c .args .times .now) (c .args .places .now) _ (c .pre .1))
+loop-holds c = (search needs, small-none (c .args .counts .now) (c .args .first-block .now), cast-none (c .args .counts .now) (c .args .first-block .now) _ (c .pre .1))
 
 -- src/lib.rt:218:12
 element-copy-out-if1 : tie.Need-element-copy-out-if1 Inv-loop μ-loop Inv-loop2 μ-loop2
@@ -44,7 +45,7 @@ loop-less c = search needs
 
 -- src/lib.rt:217:5
 loop-again : tie.Need-loop-again Inv-loop μ-loop Inv-loop2 μ-loop2
-loop-again c = (omega (arith, c .before .before .loop-test .taken), small-skip (c .before .before .before .before .args .times .now) (c .before .before .before .before .args .places .now) _ (c .if1 .taken) (c .before .before .before .loop .inv .1), cast-skip (c .before .before .before .before .args .times .now) (c .before .before .before .before .args .places .now) _ _ (c .if1 .taken) (c .before .before .before .loop .inv .2))
+loop-again c = (omega (arith, c .before .before .loop-test .taken), small-skip (c .before .before .before .before .args .counts .now) (c .before .before .before .before .args .first-block .now) _ (c .if1 .taken) (c .before .before .before .loop .inv .1), cast-skip (c .before .before .before .before .args .counts .now) (c .before .before .before .before .args .first-block .now) _ _ (c .if1 .taken) (c .before .before .before .loop .inv .2))
 
 -- src/lib.rt:221:23
 element-copy-out-wide : tie.Need-element-copy-out-wide Inv-loop μ-loop Inv-loop2 μ-loop2
@@ -84,11 +85,11 @@ loop-less-2 c = search needs
 
 -- src/lib.rt:217:5
 loop-again-2 : tie.Need-loop-again-2 Inv-loop μ-loop Inv-loop2 μ-loop2
-loop-again-2 c = (omega (arith, c .before .before .before .before .before .before .loop-test .taken), small-next (c .before .before .before .before .before .before .before .before .args .times .now) (c .before .before .before .before .before .before .before .before .args .places .now) _ _ (c .before .before .wide .ensures .0) (c .before .before .wide .ensures .1) (c .before .before .before .before .before .before .before .loop .inv .1), cast-put (c .before .before .before .before .before .before .before .before .args .times .now) (c .before .before .before .before .before .before .before .before .args .places .now) _ _ _ _ (c .before .before .before .before .before .before .loop-test .taken) (c .before .before .before .before .if1 .left) (c .before .before .wide .ensures .0) (c .before .before .wide .ensures .1) (c .set-bit .ensures) (c .before .before .before .before .before .before .before .loop .inv .2))
+loop-again-2 c = (omega (arith, c .before .before .before .before .before .before .loop-test .taken), small-next (c .before .before .before .before .before .before .before .before .args .counts .now) (c .before .before .before .before .before .before .before .before .args .first-block .now) _ _ (c .before .before .wide .ensures .0) (c .before .before .wide .ensures .1) (c .before .before .before .before .before .before .before .loop .inv .1), cast-put (c .before .before .before .before .before .before .before .before .args .counts .now) (c .before .before .before .before .before .before .before .before .args .first-block .now) _ _ _ _ (c .before .before .before .before .before .before .loop-test .taken) (c .before .before .before .before .if1 .left) (c .before .before .wide .ensures .0) (c .before .before .wide .ensures .1) (c .set-bit .ensures) (c .before .before .before .before .before .before .before .loop .inv .2))
 
 -- src/lib.rt:227:5
 loop2-holds : tie.Need-loop2-holds Inv-loop μ-loop Inv-loop2 μ-loop2
-loop2-holds c = (search needs, λ falls. lift-start (c .before .before .args .parents .now) (c .before .before .args .times .now) (c .before .before .args .places .now) falls _ _ (c .loop-test .left) (c .before .loop .inv .1) (c .before .loop .inv .2))
+loop2-holds c = (search needs, λ falls. lift-start (c .before .before .args .parents .now) (c .before .before .args .counts .now) (c .before .before .args .first-block .now) falls _ _ (c .loop-test .left) (c .before .loop .inv .1) (c .before .loop .inv .2))
 
 -- src/lib.rt:228:25
 element-copy-out-wide-2 : tie.Need-element-copy-out-wide-2 Inv-loop μ-loop Inv-loop2 μ-loop2
@@ -136,11 +137,11 @@ loop2-less c = omega (arith, c .before .before .before .before .before .loop2-te
 
 -- src/lib.rt:227:5
 loop2-again : tie.Need-loop2-again Inv-loop μ-loop Inv-loop2 μ-loop2
-loop2-again c = (omega (arith, c .before .before .before .before .before .before .loop2 .inv .0), λ falls. lift-next (c .before .before .before .before .before .before .before .before .before .args .parents .now) (c .before .before .before .before .before .before .before .before .before .args .times .now) (c .before .before .before .before .before .before .before .before .before .args .places .now) falls _ _ _ _ (c .before .before .before .before .before .loop2-test .taken) (c .before .before .before .before .before .before .loop2 .inv .0) (c .before .before .before .wide2 .ensures .0) (c .before .before .before .wide2 .ensures .1) (c .merge .ensures) (c .before .before .before .before .before .before .loop2 .inv .1 falls))
+loop2-again c = (omega (arith, c .before .before .before .before .before .before .loop2 .inv .0), λ falls. lift-next (c .before .before .before .before .before .before .before .before .before .args .parents .now) (c .before .before .before .before .before .before .before .before .before .args .counts .now) (c .before .before .before .before .before .before .before .before .before .args .first-block .now) falls _ _ _ _ (c .before .before .before .before .before .loop2-test .taken) (c .before .before .before .before .before .before .loop2 .inv .0) (c .before .before .before .wide2 .ensures .0) (c .before .before .before .wide2 .ensures .1) (c .merge .ensures) (c .before .before .before .before .before .before .loop2 .inv .1 falls))
 
 -- src/lib.rt:208:1
 returns : tie.Need-returns Inv-loop μ-loop Inv-loop2 μ-loop2
-returns c = lift-end (c .before .before .before .before .args .parents .now) (c .before .before .before .before .args .times .now) (c .before .before .before .before .args .places .now) (c .before .before .before .before .pre .0) _ _ (c .loop2-test .left) (c .before .loop2 .inv .1 (c .before .before .before .before .pre .0))
+returns c = lift-end (c .before .before .before .before .args .parents .now) (c .before .before .before .before .args .counts .now) (c .before .before .before .before .args .first-block .now) (c .before .before .before .before .pre .0) _ _ (c .loop2-test .left) (c .before .loop2 .inv .1 (c .before .before .before .before .pre .0))
 
 pub join-votes-spec : {M : Type 1} → statement M
 join-votes-spec =

@@ -3,6 +3,7 @@ use mir.Val.{Fits}
 use mir.Syntax.{w64}
 use native.Mathlib.Omega.{arith}
 use lib.ListN.{getD, length}
+use Rattle.sizes.specs.Sizes.{WORDS}
 use Rattle.vote_bits.proofs.Sames.{fits-two, other-words, same-words}
 use borrow.Author.Needs.{needs}
 use borrow.Author.Needs.{needs}
@@ -24,8 +25,8 @@ returns : tie.Need-returns
 returns c =
     let a = c .before .args .t1 in
     let b = c .before .args .t2 in
-    let sa : length a ≡ 2 = search needs in
-    let sb : length b ≡ 2 = search needs in
+    let sa : length a ≡ WORDS = search needs in
+    let sb : length b ≡ WORDS = search needs in
     let f : Fits w64 (getD a 0 0) = search needs in
     let g : Fits w64 (getD a 1 0) = search needs in
     let h : Fits w64 (getD b 0 0) = search needs in
@@ -45,8 +46,8 @@ returns-2 : tie.Need-returns-2
 returns-2 c =
     let a = c .before .args .t1 in
     let b = c .before .args .t2 in
-    let sa : length a ≡ 2 = search needs in
-    let sb : length b ≡ 2 = search needs in
+    let sa : length a ≡ WORDS = search needs in
+    let sb : length b ≡ WORDS = search needs in
     let f : Fits w64 (getD a 0 0) = search needs in
     let g : Fits w64 (getD a 1 0) = search needs in
     let h : Fits w64 (getD b 0 0) = search needs in

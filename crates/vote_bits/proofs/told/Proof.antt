@@ -8,6 +8,7 @@ use native.Mathlib.Nat.{le-antisymm}
 use native.Mathlib.Omega.{arith}
 use lib.ListN.{getD}
 use borrow.Author.Tests.{not-true, not-false}
+use Rattle.sizes.specs.Sizes.{BLOCKS}
 use Rattle.loops.specs.All.{all}
 use Rattle.loops.proofs.Alls.{all-none, all-more, all-false}
 use Rattle.vote_bits.specs.Told.{lies, same-bits, told}
@@ -20,10 +21,10 @@ use Rattle.vote_bits.proofs.is_told.Reads as is-told-reads
 use Rattle.vote_bits.proofs.join_votes.Reads as join-votes-reads
 
 abbrev Inv-loop : tie.InvT-loop
-Inv-loop parents used rows times places joined x₀ x = (x ≤ 256) × (all x (λ k. not (getD used k false) || same-bits (getD rows k []) (lies parents times places k)) ≡ true)
+Inv-loop parents used rows counts first-block joined x₀ x = (x ≤ BLOCKS) × (all x (λ k. not (getD used k false) || same-bits (getD rows k []) (lies parents counts first-block k)) ≡ true)
 
 abbrev μ-loop : tie.MeasureT-loop
-μ-loop parents used rows times places joined x₀ x = 256 - x
+μ-loop parents used rows counts first-block joined x₀ x = BLOCKS - x
 
 -- src/lib.rt:198:5
 join-votes-requires : tie.Need-join-votes-requires Inv-loop μ-loop
@@ -60,7 +61,7 @@ is-told-requires c κs = search needs
 -- src/lib.rt:201:13
 returns : tie.Need-returns Inv-loop μ-loop
 unfolding told
-returns c = sym (all-false _ _ _ (c .before .before .before .before .before .loop-test .taken) (told-turn (c .before .before .before .before .before .before .before .before .before .args .used .now) (c .before .before .before .before .before .before .before .before .before .args .rows .now) _ (lies (c .before .before .before .before .before .before .before .before .before .args .parents .now) (c .before .before .before .before .before .before .before .before .before .args .times .now) (c .before .before .before .before .before .before .before .before .before .args .places .now)) _ (c .before .before .before .before .before .loop-test .taken) (c .before .before .before .before .before .before .before .join-votes .ensures) ∙ sym (c .before .is-told .ensures) ∙ not-true _ (c .if1 .taken)))
+returns c = sym (all-false _ _ _ (c .before .before .before .before .before .loop-test .taken) (told-turn (c .before .before .before .before .before .before .before .before .before .args .used .now) (c .before .before .before .before .before .before .before .before .before .args .rows .now) _ (lies (c .before .before .before .before .before .before .before .before .before .args .parents .now) (c .before .before .before .before .before .before .before .before .before .args .counts .now) (c .before .before .before .before .before .before .before .before .before .args .first-block .now)) _ (c .before .before .before .before .before .loop-test .taken) (c .before .before .before .before .before .before .before .join-votes .ensures) ∙ sym (c .before .is-told .ensures) ∙ not-true _ (c .if1 .taken)))
 
 -- src/lib.rt:199:9
 add-x : tie.Need-add-x Inv-loop μ-loop
@@ -72,7 +73,7 @@ loop-less c = search needs
 
 -- src/lib.rt:199:5
 loop-again : tie.Need-loop-again Inv-loop μ-loop
-loop-again c = (omega (arith, c .before .before .before .before .before .loop-test .taken), all-more _ _ (c .before .before .before .before .before .before .loop .inv .1) (told-turn (c .before .before .before .before .before .before .before .before .before .args .used .now) (c .before .before .before .before .before .before .before .before .before .args .rows .now) _ (lies (c .before .before .before .before .before .before .before .before .before .args .parents .now) (c .before .before .before .before .before .before .before .before .before .args .times .now) (c .before .before .before .before .before .before .before .before .before .args .places .now)) _ (c .before .before .before .before .before .loop-test .taken) (c .before .before .before .before .before .before .before .join-votes .ensures) ∙ sym (c .before .is-told .ensures) ∙ not-false _ (c .if1 .left)))
+loop-again c = (omega (arith, c .before .before .before .before .before .loop-test .taken), all-more _ _ (c .before .before .before .before .before .before .loop .inv .1) (told-turn (c .before .before .before .before .before .before .before .before .before .args .used .now) (c .before .before .before .before .before .before .before .before .before .args .rows .now) _ (lies (c .before .before .before .before .before .before .before .before .before .args .parents .now) (c .before .before .before .before .before .before .before .before .before .args .counts .now) (c .before .before .before .before .before .before .before .before .before .args .first-block .now)) _ (c .before .before .before .before .before .loop-test .taken) (c .before .before .before .before .before .before .before .join-votes .ensures) ∙ sym (c .before .is-told .ensures) ∙ not-false _ (c .if1 .left)))
 
 -- src/lib.rt:187:1
 returns-2 : tie.Need-returns-2 Inv-loop μ-loop

@@ -4,6 +4,7 @@ use mathlib.Core.List.{List}
 use Prim.Native.Nat.{ℕ, _<_, _-_}
 use native.Mathlib.Omega.{arith}
 use lib.ListN.{getD, set}
+use Rattle.sizes.specs.Sizes.{BLOCKS}
 use Rattle.bitfield.specs.Bits.{put}
 use Rattle.nodes.specs.Nodes.{row}
 use Rattle.vote_insert.specs.Insert.{marked}
@@ -16,7 +17,7 @@ use Rattle.bitfield.proofs.set_bit.Reads as set-bit-reads
 use Rattle.climbs.proofs.wide.Reads as wide-reads
 
 abbrev Inv-loop : tie.InvT-loop
-Inv-loop above rows₀ base block bit at₀ rows at = (at < 256) × (marked above base bit block rows₀ ≡ marked above base bit at rows)
+Inv-loop above rows₀ base block bit at₀ rows at = (at < BLOCKS) × (marked above base bit block rows₀ ≡ marked above base bit at rows)
 
 abbrev μ-loop : tie.MeasureT-loop
 μ-loop above rows₀ base block bit at₀ rows at = at

@@ -2,6 +2,7 @@ use borrow.Author.Needs.{needs}
 use mathlib.Core.Path.{_≡_, refl, sym, ap, subst, _∙_}
 use Prim.Native.Nat.{ℕ, _<_, _≤_, _-_, _+_, pred}
 use native.Mathlib.Omega.{arith}
+use Rattle.sizes.specs.Sizes.{BLOCKS}
 use Rattle.loops.specs.Listing.{front}
 use Rattle.loops.proofs.Listings.{length-front}
 use Rattle.graph.specs.Ghost.{merge}
@@ -19,16 +20,16 @@ use Rattle.vote_merge.proofs.meets.Reads as meets-reads
 
 abbrev Inv-loop : tie.InvT-loop
 Inv-loop parents rows weights question block best₀ places₀ count₀ best places count =
-    (best < 256) × (count ≤ 256) × Lower parents best (front count places) × (f : ℕ) × (256 ≤ best + f)
-    × (merge (col parents) (row rows) (passes weights question) 256 block (front count₀ places₀)
+    (best < BLOCKS) × (count ≤ BLOCKS) × Lower parents best (front count places) × (f : ℕ) × (BLOCKS ≤ best + f)
+    × (merge (col parents) (row rows) (passes weights question) BLOCKS block (front count₀ places₀)
     ≡ merge (col parents) (row rows) (passes weights question) f best (front count places))
 
 abbrev μ-loop : tie.MeasureT-loop
-μ-loop parents rows weights question block best₀ places₀ count₀ best places count = 256 - best
+μ-loop parents rows weights question block best₀ places₀ count₀ best places count = BLOCKS - best
 
 -- src/lib.rt:163:5
 loop-holds : tie.Need-loop-holds Inv-loop μ-loop
-loop-holds c = (search needs, c .before .pre .1, c .before .pre .2, 256, search needs, refl)
+loop-holds c = (search needs, c .before .pre .1, c .before .pre .2, BLOCKS, search needs, refl)
 
 -- src/lib.rt:164:13
 meets-requires : tie.Need-meets-requires Inv-loop μ-loop

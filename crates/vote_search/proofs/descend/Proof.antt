@@ -3,6 +3,7 @@ use borrow.Author.Needs.{needs}
 use mathlib.Core.Path.{_≡_, sym, ap, subst, _∙_}
 use Prim.Native.Nat.{ℕ, _<_, _≤_, _-_, _+_, pred}
 use native.Mathlib.Omega.{arith}
+use Rattle.sizes.specs.Sizes.{BLOCKS}
 use Rattle.loops.specs.Listing.{front}
 use Rattle.graph.specs.Ghost.{settle, following}
 use Rattle.nodes.specs.Nodes.{col, passes}
@@ -24,13 +25,13 @@ use Rattle.vote_search.proofs.following.Reads as following-reads
 
 abbrev Inv-loop : tie.InvT-loop
 Inv-loop parents used above rows order listed weights question block last₀ places₀ count₀ last places count =
-    (last < 256) × (count ≤ 256) × Lower parents last (front count places) × (f : ℕ) × (256 ≤ last + f)
-    × (settle (col parents) (unheaded used rows order listed) (passes weights question) 256 block (following (col parents) (unheaded used rows order listed) block)
+    (last < BLOCKS) × (count ≤ BLOCKS) × Lower parents last (front count places) × (f : ℕ) × (BLOCKS ≤ last + f)
+    × (settle (col parents) (unheaded used rows order listed) (passes weights question) BLOCKS block (following (col parents) (unheaded used rows order listed) block)
     ≡ settle (col parents) (unheaded used rows order listed) (passes weights question) f last (front count places))
 
 abbrev μ-loop : tie.MeasureT-loop
 μ-loop parents used above rows order listed weights question block last₀ places₀ count₀ last places count =
-    256 - last
+    BLOCKS - last
 
 -- src/lib.rt:256:9
 following-requires : tie.Need-following-requires Inv-loop μ-loop
@@ -44,7 +45,7 @@ loop-holds c =
       search needs,
       omega (arith, followed-few _ _ _ _ _ _ _ (c .before .following .ensures), s .listed-fits),
       subst (Lower (c .before .before .args .parents .now) _) (sym here) (lower-following _ _ _ _ _ s _),
-      256,
+      BLOCKS,
       search needs,
       ap (settle _ _ _ _ _) (following-unheaded _ _ _ _ _ s _ ∙ sym here),
     )

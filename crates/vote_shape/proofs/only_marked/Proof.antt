@@ -6,6 +6,7 @@ use Prim.Native.Nat.{_≤_, _-_}
 use native.Mathlib.Nat.{le-antisymm}
 use lib.ListN.{getD}
 use borrow.Author.Tests.{not-true, not-false}
+use Rattle.sizes.specs.Sizes.{BLOCKS}
 use Rattle.loops.specs.All.{all}
 use Rattle.loops.proofs.Alls.{all-none, all-more, all-false}
 use Rattle.vote_shape.specs.Voted.{only-marked}
@@ -16,10 +17,10 @@ use Rattle.vote_shape.proofs.only_marked.Lts as lts
 use Rattle.vote_shape.proofs.is_marked.Reads as is-marked-reads
 
 abbrev Inv-loop : tie.InvT-loop
-Inv-loop used marks x₀ x = (x ≤ 256) × (all x (λ j. not (getD used j false) || getD marks j false) ≡ true)
+Inv-loop used marks x₀ x = (x ≤ BLOCKS) × (all x (λ j. not (getD used j false) || getD marks j false) ≡ true)
 
 abbrev μ-loop : tie.MeasureT-loop
-μ-loop used marks x₀ x = 256 - x
+μ-loop used marks x₀ x = BLOCKS - x
 
 -- src/lib.rt:170:5
 loop-holds : tie.Need-loop-holds Inv-loop μ-loop

@@ -7,6 +7,7 @@ use native.Mathlib.Nat.{le-antisymm}
 use lib.Dec.{leb}
 use lib.ListN.{getD}
 use borrow.Author.Tests.{not-true, not-false}
+use Rattle.sizes.specs.Sizes.{VOTES}
 use Rattle.loops.specs.All.{all}
 use Rattle.loops.proofs.Alls.{all-none, all-more, all-false}
 use Rattle.vote_shape.specs.Voted.{targets-used}
@@ -18,10 +19,10 @@ use Rattle.climbs.proofs.wide.Reads as wide-reads
 use Rattle.vote_shape.proofs.is_used.Reads as is-used-reads
 
 abbrev Inv-loop : tie.InvT-loop
-Inv-loop used times places j₀ j = (j ≤ 128) × (all j (λ i. leb (getD times i 0) 0 || getD used (getD places i 0) false) ≡ true)
+Inv-loop used counts first-block j₀ j = (j ≤ VOTES) × (all j (λ i. leb (getD counts i 0) 0 || getD used (getD first-block i 0) false) ≡ true)
 
 abbrev μ-loop : tie.MeasureT-loop
-μ-loop used times places j₀ j = 128 - j
+μ-loop used counts first-block j₀ j = VOTES - j
 
 -- src/lib.rt:134:5
 loop-holds : tie.Need-loop-holds Inv-loop μ-loop

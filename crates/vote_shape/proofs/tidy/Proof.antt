@@ -1,3 +1,6 @@
+use Rattle.sizes.specs.Sizes.{VOTES}
+use Rattle.lent.specs.Moment.{plain}
+use Rattle.tracker.specs.Votes.{votes-at}
 use borrow.Author.Needs.{needs}
 use borrow.Author.Needs.{needs}
 use mathlib.Core.Bool.{true, false}
@@ -19,10 +22,10 @@ use Rattle.vote_shape.proofs.is_first_clear.Reads as is-first-clear-rea
 use Rattle.vote_shape.proofs.is_second_clear.Reads as is-second-clear-reads
 
 abbrev Inv-loop : tie.InvT-loop
-Inv-loop size times places signatures targets numbers seconds j₀ j = (j ≤ 128) × (all j (tidy-at size (record { times = times; places = places; signatures = signatures; targets = targets; numbers = numbers; seconds = seconds })) ≡ true)
+Inv-loop size counts first-block first-signature second-target second-number second-signature j₀ j = (j ≤ VOTES) × (all j (tidy-at size (votes-at plain counts first-block first-signature second-target second-number second-signature)) ≡ true)
 
 abbrev μ-loop : tie.MeasureT-loop
-μ-loop size times places signatures targets numbers seconds j₀ j = 128 - j
+μ-loop size counts first-block first-signature second-target second-number second-signature j₀ j = VOTES - j
 
 -- src/lib.rt:58:5
 loop-holds : tie.Need-loop-holds Inv-loop μ-loop
@@ -34,7 +37,7 @@ element-copy-out-n c = search needs
 
 -- src/lib.rt:60:13
 is-counted-requires : tie.Need-is-counted-requires Inv-loop μ-loop
-is-counted-requires c κs = search needs
+is-counted-requires c κs = omega (arith, c .before .loop-test .taken)
 
 -- src/lib.rt:61:13
 returns : tie.Need-returns Inv-loop μ-loop

@@ -1,9 +1,10 @@
-use borrow.Author.Needs.{needs}
 use mathlib.Core.Path.{sym, ap, _∙_}
 use native.Mathlib.Nat.{le-refl}
 use Prim.Native.Nat.{_-_}
 use lib.ListN.{length}
 use borrow.Author.Needs.{needs}
+use Rattle.lent.specs.Moment.{plain}
+use Rattle.importing.specs.Lent.{frame-at, held-at}
 use Rattle.marks.proofs.Readings.{whole-means}
 use Rattle.runs.proofs.Turns.{whole-fields}
 use Rattle.runs.proofs.Loops.{going-start, tried-goes, going-on, going-over, going-ends, going-fits}
@@ -19,17 +20,17 @@ use Rattle.marks.proofs.read.Reads as read-reads
 use Rattle.voting.proofs.take.Reads as take-reads
 
 abbrev Inv-loop : tie.InvT-loop
-Inv-loop voters weights size total threshold number ids₀ heights₀ parents₀ blocks base used₀ above₀ rows₀ order₀ heads₀ times₀ places₀ signatures₀ targets₀ numbers₀ seconds₀ entries₀ bytes grown₀ standing₀ taken₀ at₀ ids heights parents used above rows order heads times places signatures targets numbers seconds entries grown standing taken at =
+Inv-loop voters weights size total threshold number ids₀ numbers₀ parents₀ blocks base used₀ above₀ rows₀ order₀ heads₀ counts₀ first-block₀ first-signature₀ second-target₀ second-number₀ second-signature₀ entries₀ bytes grown₀ standing₀ taken₀ at₀ ids numbers parents used above rows order heads counts first-block first-signature second-target second-number second-signature entries grown standing taken at =
     Voted-so-far
-    (record { number = number; voters = record { ids = voters; weights = weights; count = size; threshold = threshold; total = total }; table = record { ids = ids₀; numbers = heights₀; parents = parents₀; count = blocks }; base = base })
-    (record { graph = record { used = used₀; above = above₀; rows = rows₀; order = order₀; listed = standing₀ .listed; heads = heads₀; tips = standing₀ .tips }; votes = record { times = times₀; places = places₀; signatures = signatures₀; targets = targets₀; numbers = numbers₀; seconds = seconds₀ }; entries = entries₀; count = standing₀ .count; equivocations = standing₀ .equivocations; heard = standing₀ .heard; answers = standing₀ .answers })
+    (frame-at plain voters weights size total threshold number ids₀ numbers₀ parents₀ blocks base)
+    (held-at plain used₀ above₀ rows₀ order₀ heads₀ counts₀ first-block₀ first-signature₀ second-target₀ second-number₀ second-signature₀ entries₀ standing₀)
     bytes
-    (record { number = number; voters = record { ids = voters; weights = weights; count = size; threshold = threshold; total = total }; table = record { ids = ids; numbers = heights; parents = parents; count = grown }; base = base })
-    (record { graph = record { used = used; above = above; rows = rows; order = order; listed = standing .listed; heads = heads; tips = standing .tips }; votes = record { times = times; places = places; signatures = signatures; targets = targets; numbers = numbers; seconds = seconds }; entries = entries; count = standing .count; equivocations = standing .equivocations; heard = standing .heard; answers = standing .answers })
+    (frame-at plain voters weights size total threshold number ids numbers parents grown base)
+    (held-at plain used above rows order heads counts first-block first-signature second-target second-number second-signature entries standing)
     taken at
 
 abbrev μ-loop : tie.MeasureT-loop
-μ-loop voters weights size total threshold number ids₀ heights₀ parents₀ blocks base used₀ above₀ rows₀ order₀ heads₀ times₀ places₀ signatures₀ targets₀ numbers₀ seconds₀ entries₀ bytes grown₀ standing₀ taken₀ at₀ ids heights parents used above rows order heads times places signatures targets numbers seconds entries grown standing taken at =
+μ-loop voters weights size total threshold number ids₀ numbers₀ parents₀ blocks base used₀ above₀ rows₀ order₀ heads₀ counts₀ first-block₀ first-signature₀ second-target₀ second-number₀ second-signature₀ entries₀ bytes grown₀ standing₀ taken₀ at₀ ids numbers parents used above rows order heads counts first-block first-signature second-target second-number second-signature entries grown standing taken at =
     length bytes - at
 
 -- src/lib.rt:287:5

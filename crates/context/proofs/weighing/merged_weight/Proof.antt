@@ -1,5 +1,6 @@
 use mathlib.Core.Path.{_≡_, _∙_, sym}
 use lib.ListN.{length}
+use Rattle.sizes.specs.Sizes.{WORDS}
 use Rattle.context.proofs.Votes.{voted-joined, weight-cong}
 use borrow.Author.Needs.{needs}
 use Rattle.context.proofs.weighing.merged_weight.Statement.{statement}
@@ -20,8 +21,8 @@ weight-requires c κs = search needs
 -- src/weighing.rt:53:1
 returns : tie.Need-returns
 returns c =
-    let a : length (c .before .before .args .bits) ≡ 2 = search needs in
-    let b : length (c .before .before .args .other) ≡ 2 = search needs in
+    let a : length (c .before .before .args .bits) ≡ WORDS = search needs in
+    let b : length (c .before .before .args .other) ≡ WORDS = search needs in
     rw (c .weight .ensures, c .before .merge .ensures) (weight-cong _ _ _ (λ p h. voted-joined _ p _ _ (a ∙ sym b)))
 
 pub merged-weight-spec : {M : Type 1} → statement M

@@ -2,7 +2,7 @@ use mathlib.Core.Path.{_≡_, refl, sym, _∙_}
 use borrow.Author.Tests.{not-true, not-false}
 use Rattle.round.specs.Ask.{historical-votes}
 use Rattle.loops.proofs.Tests.{T-true}
-use Rattle.round.proofs.Steps.{few-votes}
+use Rattle.round.proofs.Steps.{few-votes, fit-votes}
 use borrow.Author.Needs.{needs}
 use Rattle.round.proofs.Round.historical_votes.Statement.{statement}
 use Rattle.round.proofs.Round.historical_votes.Tie as tie
@@ -22,7 +22,7 @@ returns c = rw (sym (c .before .is-round .ensures) ∙ not-true _ (c .if1 .taken
 
 -- src/lib.rt:916:9
 records-requires : tie.Need-records-requires
-records-requires c κs = few-votes (c .before .before .before .before .before .before .before .before .before .before .args .self) (T-true (sym (c .before .before .before .before .before .before .before .before .is-round .ensures) ∙ not-false _ (c .before .before .before .before .before .before .before .if1 .left)))
+records-requires c κs = (few-votes (c .before .before .before .before .before .before .before .before .before .before .args .self) (T-true (sym (c .before .before .before .before .before .before .before .before .is-round .ensures) ∙ not-false _ (c .before .before .before .before .before .before .before .if1 .left))), fit-votes (c .before .before .before .before .before .before .before .before .before .before .args .self) (T-true (sym (c .before .before .before .before .before .before .before .before .is-round .ensures) ∙ not-false _ (c .before .before .before .before .before .before .before .if1 .left))))
 
 -- src/lib.rt:904:5
 same-length : tie.Need-same-length

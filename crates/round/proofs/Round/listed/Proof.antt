@@ -1,5 +1,5 @@
 use Rattle.round.proofs.Steps.{parents-fall, few-voters}
-use Rattle.round.proofs.Lists.{few-entries, listed-done}
+use Rattle.round.proofs.Lists.{few-entries, fit-entries, listed-done}
 use borrow.Author.Needs.{needs}
 use Rattle.round.proofs.Round.listed.Statement.{statement}
 use Rattle.round.proofs.Round.listed.Tie as tie
@@ -14,7 +14,7 @@ entries-of-requires c κs = (parents-fall (c .before .before .before .before .be
 
 -- src/lib.rt:882:9
 records-requires : tie.Need-records-requires
-records-requires c κs = few-entries (c .before .before .before .before .before .before .before .before .before .before .before .before .before .args .self) _ _ (c .before .before .entries-of .ensures) (c .before .before .before .before .before .before .before .before .before .before .before .before .before .pre)
+records-requires c κs = (few-entries (c .before .before .before .before .before .before .before .before .before .before .before .before .before .args .self) _ _ (c .before .before .entries-of .ensures) (c .before .before .before .before .before .before .before .before .before .before .before .before .before .pre), fit-entries (c .before .before .before .before .before .before .before .before .before .before .before .before .before .args .self) _ _ (c .before .before .entries-of .ensures) (c .before .before .before .before .before .before .before .before .before .before .before .before .before .pre))
 
 -- src/lib.rt:866:5
 same-length : tie.Need-same-length

@@ -2,6 +2,7 @@ use mathlib.Core.Path.{_≡_, sym, _∙_}
 use native.Mathlib.Omega.{arith}
 use lib.ListN.{length}
 use borrow.Author.Tests.{lt-ltb}
+use Rattle.sizes.specs.Sizes.{VOTERS}
 use Rattle.voter_set.specs.Lookup.{nth}
 use Rattle.voter_set.proofs.Steps.{nth-beyond, nth-short}
 use borrow.Author.Needs.{needs}
@@ -18,7 +19,7 @@ returns c = sym (nth-beyond (c .before .args .t1) _ (c .if1 .taken))
 -- src/lib.rt:105:13
 returns-2 : tie.Need-returns-2
 returns-2 c =
-    let l : length (c .before .before .args .t1 .weights) ≡ 64 = search needs in
+    let l : length (c .before .before .args .t1 .weights) ≡ VOTERS = search needs in
     sym (nth-short (c .before .before .args .t1) _ (omega (arith, c .if2 .taken)))
 
 -- src/lib.rt:107:44
