@@ -26,6 +26,10 @@
 extern "C" {
 #endif
 
+/* The version of this header; beamtassel_version() is the archive's. Both are one number: 1000000 * major + 1000 * minor + patch. */
+#define BEAMTASSEL_VERSION "0.2.0"
+#define BEAMTASSEL_VERSION_NUMBER 2000
+
 /* Results from here on are refusals: the number is the result minus this. */
 #define BEAMTASSEL_REFUSED UINT64_C(4294967296)
 
@@ -102,9 +106,16 @@ uint64_t beamtassel_finalizing(const uint8_t *journal, size_t journal_length, ui
  * Replays two journals of one round and writes the weight of the voters whose first precommits in them differ in block: 8 bytes,
  * little-endian. A voter who is silent in either adds nothing.
  * Refuses, in this order: the first journal's own refusal; the second's; 16; 14.
+ *
+ * Block tables are compared line by line, in the order in which the blocks were learned. So 16 is also the answer for two desks that learned
+ * the same blocks in another order, though nothing is amiss. Give both journals one order first: in each, put the Bk records into the
+ * order of rising number and then of rising id, all of them before the Op (README.md, "Two desks that learned blocks in another order").
  */
 uint64_t beamtassel_two_views(const uint8_t *first, size_t first_length, const uint8_t *second, size_t second_length, uint8_t *out,
                               size_t out_length);
+
+/* The version of the archive that is linked, as one number: BEAMTASSEL_VERSION_NUMBER if it belongs to this header. */
+uint64_t beamtassel_version(void);
 
 #ifdef __cplusplus
 }

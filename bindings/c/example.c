@@ -1,5 +1,7 @@
 /* Replays a journal from standard input: its lines, then the same from the numbers, the finalizing precommits, and the journal beside
- * itself. `example < JOURNAL` */
+ * itself. `example < JOURNAL`. Of an input that is not read to its end it tells nothing. Status: 0 told, 3 input not read, 4 output not
+ * written. */
+#include <errno.h>
 #include <inttypes.h>
 #include <stdio.h>
 #include <stdlib.h>
@@ -9,6 +11,7 @@
 /* A report is 22 numbers without gaps. */
 typedef char report_size[sizeof(struct beamtassel_report) == BEAMTASSEL_REPORT_BYTES ? 1 : -1];
 
+/* All of standard input; NULL where a read fails, and errno then has the reason. A read that a signal interrupted is made again. */
 static uint8_t *read_all(size_t *length)
 {
     size_t room = 4096;
@@ -16,13 +19,22 @@ static uint8_t *read_all(size_t *length)
     *length = 0;
     while (bytes != NULL) {
         *length += fread(bytes + *length, 1, room - *length, stdin);
-        if (*length < room)
-            return bytes;
-        uint8_t *more = realloc(bytes, 2 * room);
-        if (more == NULL)
+        if (ferror(stdin) && errno == EINTR) {
+            clearerr(stdin);
+        } else if (ferror(stdin)) {
+            int reason = errno;
             free(bytes);
-        bytes = more;
-        room *= 2;
+            errno = reason;
+            return NULL;
+        } else if (*length < room) {
+            return bytes;
+        } else {
+            uint8_t *more = realloc(bytes, 2 * room);
+            if (more == NULL)
+                free(bytes);
+            bytes = more;
+            room *= 2;
+        }
     }
     return NULL;
 }
@@ -58,10 +70,17 @@ static void print_report(const struct beamtassel_report *report)
 
 int main(void)
 {
+    if (beamtassel_version() != BEAMTASSEL_VERSION_NUMBER) {
+        fprintf(stderr, "example: the archive does not belong to the header %s\n", BEAMTASSEL_VERSION);
+        return 1;
+    }
+
     size_t length;
     uint8_t *journal = read_all(&length);
-    if (journal == NULL)
-        return 1;
+    if (journal == NULL) {
+        perror("example: standard input");
+        return 3;
+    }
 
     uint8_t lines[BEAMTASSEL_LINES_BYTES];
     uint64_t size = beamtassel_print(journal, length, lines, sizeof lines);
@@ -92,5 +111,9 @@ int main(void)
     printf("a byte short %" PRIu64 "\n", size - BEAMTASSEL_REFUSED);
 
     free(journal);
+    if (fclose(stdout) != 0) {
+        perror("example: standard output");
+        return 4;
+    }
     return 0;
 }
