@@ -35,7 +35,8 @@ impl fmt::Display for Source {
     fn fmt(&self, f: &mut fmt::Formatter<'_>) -> fmt::Result {
         match self {
             Source::Input => f.write_str("standard input"),
-            Source::File(path) => write!(f, "{}", path.to_string_lossy()),
+            // A name with control characters does not steer the terminal.
+            Source::File(path) => f.write_str(&path.to_string_lossy().replace(char::is_control, "?")),
         }
     }
 }

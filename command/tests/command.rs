@@ -121,32 +121,6 @@ fn two_views_of_one_round() {
     fails(&["text", "--sort-blocks", "refused.journal"], 1, "refused 5");
 }
 
-/// What a replay tells does not depend on the order of blocks: README and docs/RULES.md say so.
-#[test]
-fn blocks_in_one_order_tell_the_same() {
-    let folder = Folder::new("order");
-    let mut changed = 0;
-    for class in ["plain", "above", "over", "siblings", "forks", "growing", "bases", "spread", "cut"] {
-        for index in 0..6 {
-            let journal = generate::journal(class, 7, index);
-            if beamtassel::lines(&journal).starts_with("refused") {
-                continue;
-            }
-            let path = folder.file("journal", &journal);
-            let text = said(command().args(["text", "--sort-blocks"]).arg(&path));
-            let sorted = Command::new(env!("CARGO_BIN_EXE_beamtassel"))
-                .arg("bytes")
-                .arg(folder.file("text", text.out.as_bytes()))
-                .output()
-                .unwrap()
-                .stdout;
-            changed += usize::from(sorted != journal);
-            assert_eq!(beamtassel::lines(&sorted), beamtassel::lines(&journal), "{class} {index}");
-        }
-    }
-    assert!(changed > 10, "{changed}");
-}
-
 #[test]
 fn usage_is_told_apart() {
     for words in [
@@ -209,8 +183,9 @@ fn an_input_that_fails_is_status_3() {
 /// A file that is opened does not get the number of a standard input that is closed.
 #[test]
 fn a_file_does_not_stand_in_for_a_closed_input() {
-    let said = shell(&beamtassel(&["replay", "case-j.journal", "-"]).current_dir(root().join("examples")), "<&-");
-    assert_eq!(said.status, Some(3), "{}", said.error);
+    let said = shell(command().arg("replay").arg(example("case-j.journal")).arg("-"), "<&-");
+    assert_eq!((said.status, said.out), (Some(3), lines_of("case-j.lines")));
+    assert_eq!(said.error, "beamtassel: standard input: Bad file descriptor (os error 9)\n");
 }
 
 #[test]
@@ -417,4 +392,38 @@ fn names_and_colour_on_a_terminal() {
     // Plain when piped, unless colour is asked for.
     let asked = said(&mut beamtassel(&["replay", "--color", "always", "case-j.journal"])).out;
     assert_eq!(asked, one);
+}
+
+/// Every command and option stands in the help, the man page and each completion.
+#[test]
+fn manual_and_completion_are_whole() {
+    let of = |name: &str| fs::read_to_string(root().join("command").join(name)).unwrap();
+    let manual = of("beamtassel.1").replace("\\-", "-");
+    assert!(manual.contains(&format!("\"Beamtassel {}\"", beamtassel::version())));
+    let help = said(&mut beamtassel(&["--help"])).out;
+    let shells = ["beamtassel.bash", "_beamtassel", "beamtassel.fish"].map(|name| of(&format!("completion/{name}")));
+    for word in
+        ["replay", "finalizing", "two-views", "text", "bytes", "color", "names", "sort-blocks", "help", "version"]
+    {
+        assert!(help.contains(word) && manual.contains(word), "{word}");
+        assert!(shells.iter().all(|shell| shell.contains(word)), "{word}");
+    }
+}
+
+#[test]
+fn bash_completes() {
+    let case = [
+        ("beamtassel re", "replay"),
+        ("beamtassel replay --n", "--names"),
+        ("beamtassel text --s", "--sort-blocks"),
+        ("beamtassel replay --color al", "always"),
+        ("beamtassel two-views case-j.journal case-j.t", "case-j.txt"),
+    ];
+    for (words, completed) in case {
+        let script = format!(
+            "source ../command/completion/beamtassel.bash; COMP_WORDS=({words}); COMP_CWORD=$((${{#COMP_WORDS[@]}} - 1)); _beamtassel; echo \"${{COMPREPLY[*]}}\""
+        );
+        let said = said(Command::new("bash").arg("-c").arg(script).current_dir(root().join("examples")));
+        assert_eq!(said.out, format!("{completed}\n"), "{words}: {}", said.error);
+    }
 }
