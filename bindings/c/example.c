@@ -5,6 +5,7 @@
 #include <inttypes.h>
 #include <stdio.h>
 #include <stdlib.h>
+#include <unistd.h>
 
 #include "beamtassel.h"
 
@@ -18,17 +19,18 @@ static uint8_t *read_all(size_t *length)
     uint8_t *bytes = malloc(room);
     *length = 0;
     while (bytes != NULL) {
-        *length += fread(bytes + *length, 1, room - *length, stdin);
-        if (ferror(stdin) && errno == EINTR) {
-            clearerr(stdin);
-        } else if (ferror(stdin)) {
+        ssize_t got = read(STDIN_FILENO, bytes + *length, room - *length);
+        if (got == 0)
+            return bytes;
+        if (got < 0 && errno != EINTR) {
             int reason = errno;
             free(bytes);
             errno = reason;
             return NULL;
-        } else if (*length < room) {
-            return bytes;
-        } else {
+        }
+        if (got > 0)
+            *length += (size_t)got;
+        if (*length == room) {
             uint8_t *more = realloc(bytes, 2 * room);
             if (more == NULL)
                 free(bytes);

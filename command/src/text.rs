@@ -78,7 +78,9 @@ fn put_record(shape: &Shape, record: &[u8], out: &mut String) {
 fn put_bytes(bytes: &[u8], why: &str, out: &mut String) {
     out.push_str("bytes ");
     for byte in bytes {
-        let _ = write!(out, "{byte:02x}");
+        for digit in [byte >> 4, byte & 15] {
+            out.push(char::from(b"0123456789abcdef"[usize::from(digit)]));
+        }
     }
     if !why.is_empty() {
         let _ = write!(out, " # {why}");
