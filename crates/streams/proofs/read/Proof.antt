@@ -58,7 +58,10 @@ loop-less c = omega arith
 
 -- src/lib.rt:109:5
 loop-again : tie.Need-loop-again Inv-loop μ-loop
-loop-again c = (omega arith, rw (c .before .next .given .1) at (c .before .before .before .after .ensures .1), c .before .before .before .before .before .before .read-from .kept .0 ∙ c .before .before .before .before .before .before .before .before .before .loop .inv .2)
+loop-again c =
+    let read = c .before .before .before .before .before .before in
+    let held = read .before .before .before .loop .inv in
+    (omega arith, rw (c .before .next .given .1) at (c .before .before .before .after .ensures .1), read .read-from .kept .0 ∙ held .2)
 
 -- src/lib.rt:102:1
 same-length-2 : tie.Need-same-length-2 Inv-loop μ-loop
