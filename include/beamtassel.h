@@ -14,7 +14,7 @@
  * - No call allocates, blocks, reads or writes a file, or keeps anything for the next call, so calls may run in several threads at once.
  *   A call needs at most BEAMTASSEL_STACK_BYTES of stack, whatever the journal's length.
  *
- * The numbers of refusals are those of document 01, "Refusal numbers".
+ * The numbers of refusals are those of docs/RULES.md, "Refusal numbers", which are document 01's. That page has the journal's format too.
  */
 #ifndef BEAMTASSEL_H
 #define BEAMTASSEL_H

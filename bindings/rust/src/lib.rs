@@ -61,7 +61,7 @@ pub const FINALIZING_BYTES: usize = 2816;
 /// The bytes that [`two_views_into`] writes.
 pub const WEIGHT_BYTES: usize = 8;
 
-/// A refusal, by its number in document 01, "Refusal numbers".
+/// A refusal, by its number in docs/RULES.md, "Refusal numbers", which are document 01's.
 #[derive(Clone, Copy, Debug, PartialEq, Eq, Hash)]
 pub struct Refusal(u8);
 
