@@ -1,5 +1,5 @@
 //! `beamtassel`: what a desk's journal tells, for people. The counting is the proved library's; here is reading, words and writing.
-#![cfg_attr(not(test), no_main)]
+#![no_main]
 
 mod help;
 mod input;
@@ -12,8 +12,9 @@ use beamtassel::{Refusal, Report};
 use help::Command;
 use input::Source;
 use output::{complain, Colour, Output};
-use std::ffi::{OsStr, OsString};
+use std::ffi::{c_char, c_int, CStr, OsStr, OsString};
 use std::io;
+use std::os::unix::ffi::OsStrExt;
 
 /// What the command ends with, the gravest of what happened.
 #[derive(Clone, Copy, PartialEq, PartialOrd)]
@@ -249,17 +250,18 @@ fn run(words: &[OsString]) -> Status {
 }
 
 /// Called by the C library's start-up, so that closed descriptors are seen as such (see `system`).
-#[cfg(not(test))]
+///
+/// # Safety
+/// `words` points to `count` pointers, each to text that ends in 0 and stays, as C's start-up passes them.
 #[no_mangle]
-pub extern "C" fn main(count: std::ffi::c_int, words: *const *const std::ffi::c_char) -> std::ffi::c_int {
-    use std::os::unix::ffi::OsStrExt;
+pub unsafe extern "C" fn main(count: c_int, words: *const *const c_char) -> c_int {
     system::begin();
     let words: Vec<OsString> = (1..usize::try_from(count).unwrap_or(0))
         .map(|k| {
-            // SAFETY: C's start-up passes that many pointers, each to text that ends in 0 and stays.
-            let word = unsafe { std::ffi::CStr::from_ptr(*words.add(k)) };
+            // SAFETY: as above.
+            let word = unsafe { CStr::from_ptr(*words.add(k)) };
             OsStr::from_bytes(word.to_bytes()).to_owned()
         })
         .collect();
-    run(&words) as std::ffi::c_int
+    run(&words) as c_int
 }
