@@ -14,7 +14,7 @@
  * - No call allocates, blocks, reads or writes a file, or keeps anything for the next call, so calls may run in several threads at once.
  *   A call needs at most BEAMTASSEL_STACK_BYTES of stack, whatever the journal's length.
  *
- * The numbers of refusals are those of document 01, "Refusal numbers".
+ * The numbers of refusals are those of docs/RULES.md, "Refusal numbers", which are document 01's. That page has the journal's format too.
  */
 #ifndef BEAMTASSEL_H
 #define BEAMTASSEL_H
@@ -25,6 +25,10 @@
 #ifdef __cplusplus
 extern "C" {
 #endif
+
+/* The version of this header; beamtassel_version() is the archive's. Both are one number: 1000000 * major + 1000 * minor + patch. */
+#define BEAMTASSEL_VERSION "0.2.0"
+#define BEAMTASSEL_VERSION_NUMBER 2000
 
 /* Results from here on are refusals: the number is the result minus this. */
 #define BEAMTASSEL_REFUSED UINT64_C(4294967296)
@@ -106,9 +110,16 @@ uint64_t beamtassel_finalizing(const uint8_t *journal, size_t journal_length, ui
  * Where each journal has a final block and neither block is the other or its ancestor, the weight is above the fault weight, (total - 1) / 3
  * rounded down: it tells how much weight contradicted itself, and not who; a weight above the fault weight alone does not mean two final blocks.
  * Refuses, in this order: the first journal's own refusal; the second's; 16; 14.
+ *
+ * Block tables are compared line by line, in the order in which the blocks were learned. So 16 is also the answer for two desks that learned
+ * the same blocks in another order, though nothing is amiss. Give both journals one order first: in each, put the Bk records into the
+ * order of rising number and then of rising id, all of them before the Op (README.md, "Two desks that learned blocks in another order").
  */
 uint64_t beamtassel_two_views(const uint8_t *first, size_t first_length, const uint8_t *second, size_t second_length, uint8_t *out,
                               size_t out_length);
+
+/* The version of the archive that is linked, as one number: BEAMTASSEL_VERSION_NUMBER if it belongs to this header. */
+uint64_t beamtassel_version(void);
 
 #ifdef __cplusplus
 }

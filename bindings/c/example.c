@@ -1,28 +1,42 @@
-/* Replays a journal from standard input: its lines, then the same from the numbers, the finalizing precommits, and the weight of the voters
- * who precommitted twice, which is what the journal beside itself gives. `example < JOURNAL` */
+/* Replays a journal from standard input: its lines, then the same from the numbers, the finalizing precommits, and the weight of the
+ * voters who precommitted twice, which is what the journal beside itself gives. `example < JOURNAL`. Of an input that is not read to
+ * its end it tells nothing. Status: 0 told, 3 input not read, 4 output not written. */
+#include <errno.h>
 #include <inttypes.h>
 #include <stdio.h>
 #include <stdlib.h>
+#include <unistd.h>
 
 #include "beamtassel.h"
 
 /* A report is 22 numbers without gaps. */
 typedef char report_size[sizeof(struct beamtassel_report) == BEAMTASSEL_REPORT_BYTES ? 1 : -1];
 
+/* All of standard input; NULL where a read fails, and errno then has the reason. A read that a signal interrupted is made again. */
 static uint8_t *read_all(size_t *length)
 {
     size_t room = 4096;
     uint8_t *bytes = malloc(room);
     *length = 0;
     while (bytes != NULL) {
-        *length += fread(bytes + *length, 1, room - *length, stdin);
-        if (*length < room)
+        ssize_t got = read(STDIN_FILENO, bytes + *length, room - *length);
+        if (got == 0)
             return bytes;
-        uint8_t *more = realloc(bytes, 2 * room);
-        if (more == NULL)
+        if (got < 0 && errno != EINTR) {
+            int reason = errno;
             free(bytes);
-        bytes = more;
-        room *= 2;
+            errno = reason;
+            return NULL;
+        }
+        if (got > 0)
+            *length += (size_t)got;
+        if (*length == room) {
+            uint8_t *more = realloc(bytes, 2 * room);
+            if (more == NULL)
+                free(bytes);
+            bytes = more;
+            room *= 2;
+        }
     }
     return NULL;
 }
@@ -58,10 +72,17 @@ static void print_report(const struct beamtassel_report *report)
 
 int main(void)
 {
+    if (beamtassel_version() != BEAMTASSEL_VERSION_NUMBER) {
+        fprintf(stderr, "example: the archive does not belong to the header %s\n", BEAMTASSEL_VERSION);
+        return 1;
+    }
+
     size_t length;
     uint8_t *journal = read_all(&length);
-    if (journal == NULL)
-        return 1;
+    if (journal == NULL) {
+        perror("example: standard input");
+        return 3;
+    }
 
     uint8_t lines[BEAMTASSEL_LINES_BYTES];
     uint64_t size = beamtassel_print(journal, length, lines, sizeof lines);
@@ -95,5 +116,9 @@ int main(void)
     printf("a byte short %" PRIu64 "\n", size - BEAMTASSEL_REFUSED);
 
     free(journal);
+    if (fclose(stdout) != 0) {
+        perror("example: standard output");
+        return 4;
+    }
     return 0;
 }

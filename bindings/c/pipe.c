@@ -61,8 +61,10 @@ int main(void)
     while (journal != NULL && fread(head, 1, 4, stdin) == 4) {
         size_t length = (size_t)head[0] | (size_t)head[1] << 8 | (size_t)head[2] << 16 | (size_t)head[3] << 24;
         uint8_t *more = realloc(journal, length + 1);
-        if (more == NULL || fread(more, 1, length, stdin) != length)
+        if (more == NULL || fread(more, 1, length, stdin) != length) {
+            fputs("pipe: a journal was not read whole\n", stderr);
             return 1;
+        }
         journal = more;
 
         uint8_t lines[BEAMTASSEL_LINES_BYTES];
@@ -78,5 +80,13 @@ int main(void)
             answer((const uint8_t *)"lines and numbers differ\n", 25);
     }
     free(journal);
+    if (ferror(stdin)) {
+        perror("pipe: standard input");
+        return 3;
+    }
+    if (fclose(stdout) != 0) {
+        perror("pipe: standard output");
+        return 4;
+    }
     return 0;
 }

@@ -41,7 +41,15 @@ mod raw {
             out: *mut u8,
             out_length: usize,
         ) -> u64;
+        pub fn beamtassel_version() -> u64;
     }
+}
+
+/// The version of the archive that is linked, as `major.minor.patch`.
+pub fn version() -> String {
+    // SAFETY: it takes nothing and returns a constant.
+    let number = unsafe { raw::beamtassel_version() };
+    format!("{}.{}.{}", number / 1_000_000, number / 1_000 % 1_000, number % 1_000)
 }
 
 /// The bytes that [`replay_into`] writes.
@@ -53,7 +61,7 @@ pub const FINALIZING_BYTES: usize = 2816;
 /// The bytes that [`two_views_into`] writes.
 pub const WEIGHT_BYTES: usize = 8;
 
-/// A refusal, by its number in document 01, "Refusal numbers".
+/// A refusal, by its number in docs/RULES.md, "Refusal numbers", which are document 01's.
 #[derive(Clone, Copy, Debug, PartialEq, Eq, Hash)]
 pub struct Refusal(u8);
 
@@ -279,7 +287,8 @@ pub fn finalizing(journal: &[u8]) -> Result<Vec<u8>, Refusal> {
 /// It tells how much weight contradicted itself, and not who; a weight above the fault weight alone does not mean two final blocks.
 ///
 /// # Errors
-/// The first journal's own refusal; the second's; [`Refusal::NOT_ONE_ROUND`], in this order.
+/// The first journal's own refusal; the second's; [`Refusal::NOT_ONE_ROUND`], in this order. The last is also the answer for journals that
+/// learned the same blocks in another order.
 pub fn two_views(first: &[u8], second: &[u8]) -> Result<u64, Refusal> {
     let mut out = [0; WEIGHT_BYTES];
     two_views_into(first, second, &mut out)?;

@@ -2,7 +2,7 @@
 -- number, and the buffer is untouched.
 use mathlib.Core.Bool.{Bool, true, false, cond}
 use mathlib.Core.List.{List, _++_}
-use Prim.Native.Nat.{ℕ, _+_}
+use Prim.Native.Nat.{ℕ, _+_, _*_}
 use lib.Dec.{ltb}
 use lib.ListN.{length, drop}
 use Rattle.grandpa.specs.Views.{two-views}
@@ -95,3 +95,7 @@ two-views-call first second out =
     (cond (has-round (a .journal .turn))
     (cond (has-round (b .journal .turn)) (weighed (views-in (a .journal .round) (b .journal .round)) out) (refused 16 out))
     (refused 16 out)))
+
+-- a version as one number
+abbrev pub version : ℕ → ℕ → ℕ → ℕ
+version major minor patch = 1000000 * major + 1000 * minor + patch

@@ -2,7 +2,7 @@
 // A call returns how many bytes it wrote from the start of `out`, or 4294967296 and the number of its refusal; then `out` is as it was.
 ghost use mathlib.Core.Path.{_≡_};
 ghost use Prim.Native.Nat.{_+_};
-ghost use Rattle.beamtassel.specs.Calls.{Call, number-of, has-round, weighed, replay-call, print-call, finalizing-call, two-views-call};
+ghost use Rattle.beamtassel.specs.Calls.{Call, number-of, has-round, weighed, replay-call, print-call, finalizing-call, two-views-call, version};
 use feeding::Stop;
 use journal::Turn;
 use listing::Written;
@@ -113,4 +113,12 @@ pub extern "C" fn beamtassel_two_views(first: &[u8], second: &[u8], out: &mut [u
     let one_round = one_told.round;
     let other_round = other_told.round;
     put_weight(two_views::two_views(one_round, other_round), out)
+}
+
+// The library's version: major, minor and patch, of which the last two take three digits each.
+#[no_mangle]
+pub extern "C" fn beamtassel_version() -> u64
+    ensures { λ r. ⌜ r ≡ version 0 2 0 ⌝ }
+{
+    2000
 }

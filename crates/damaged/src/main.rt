@@ -7,7 +7,6 @@
 // stay right; signatures and second pairs that are recorded; indices of at most 256; stored blocks at or below the base, and completable.
 use damaging::Kind;
 use damaging::Sums;
-use libc::STDOUT_FILENO;
 use round_words::SIZE;
 use sizes::BLOCKS;
 use sizes::HISTORY;
@@ -18,12 +17,12 @@ use sizes::WORDS;
 mod several;
 
 fn say(words: &[u8]) {
-    io::write_all(STDOUT_FILENO, words);
+    streams::say(b"damaged: standard output", words);
 }
 
 fn say_number(words: &[u8], n: u64) {
     say(words);
-    io::print_decimal(STDOUT_FILENO, n);
+    streams::say_number(b"damaged: standard output", n);
 }
 
 fn say_sums(sums: Sums) {

@@ -2,7 +2,6 @@
 use context::Phase;
 use context::Vote;
 use context::VoteNode;
-use libc::STDOUT_FILENO;
 use voter_info::Lookup;
 use voter_set::Answer;
 use voter_set::Nth;
@@ -80,12 +79,12 @@ const IDS: [u32; 65] = [
 ];
 
 fn say(words: &[u8]) {
-    io::write_all(STDOUT_FILENO, words);
+    streams::say(b"numbers: standard output", words);
 }
 
 fn say_number(words: &[u8], n: u64) {
     say(words);
-    io::print_decimal(STDOUT_FILENO, n);
+    streams::say_number(b"numbers: standard output", n);
 }
 
 // The threshold of a total.

@@ -1,12 +1,16 @@
 // Replays a journal cut at every byte, and again in pieces of every size up to 40.
 use feeding::Replay;
-use libc::STDIN_FILENO;
-use libc::STDOUT_FILENO;
+use libc::STDERR_FILENO;
 use listing::Written;
+use streams::Moved;
 
 struct Piece {
     replay: Replay,
     at: usize,
+}
+
+fn put(bytes: &[u8]) {
+    streams::say(b"pieces: standard output", bytes);
 }
 
 fn print(replay: Replay) {
@@ -17,13 +21,13 @@ fn print(replay: Replay) {
     if 512 < size {
         return;
     }
-    io::write_all(STDOUT_FILENO, &out[..size]);
+    put(&out[..size]);
 }
 
 fn say(name: &[u8], number: usize) {
-    io::write_all(STDOUT_FILENO, name);
-    io::print_decimal(STDOUT_FILENO, number as u64);
-    io::write_all(STDOUT_FILENO, b"\n");
+    put(name);
+    streams::say_number(b"pieces: standard output", number as u64);
+    put(b"\n");
 }
 
 // The first bytes alone.
@@ -81,9 +85,23 @@ fn sizes(bytes: &[u8]) {
     }
 }
 
+fn all(bytes: &[u8]) {
+    cuts(bytes);
+    sizes(bytes);
+}
+
 fn main() {
     let mut space = io::buffer();
-    let got = io::read_full(STDIN_FILENO, &mut space);
-    cuts(&space[..got]);
-    sizes(&space[..got]);
+    let moved = streams::read(&mut space);
+    let got = streams::count(moved, &space);
+    match moved {
+        Moved::All => {
+            io::write_all(
+                STDERR_FILENO,
+                b"pieces: standard input: more than 4095 bytes\n",
+            );
+        }
+        Moved::Part(_) => all(&space[..got]),
+        Moved::Failed => streams::unread(b"pieces: standard input"),
+    }
 }

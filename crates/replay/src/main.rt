@@ -1,43 +1,61 @@
-// Reads a journal from standard input and prints document 01's lines.
+// Reads a journal from standard input and prints document 01's lines. Of an input that is not read to its end it prints none.
+ghost use mathlib.Core.Path.{_≡_};
 use feeding::Replay;
-use libc::STDIN_FILENO;
-use libc::STDOUT_FILENO;
 use listing::Written;
+use streams::Moved;
 
 struct Piece {
     replay: Replay,
-    got: usize,
+    moved: Moved,
+}
+
+// One more piece of a journal, as it was read.
+fn fed(before: Replay, moved: Moved, space: &[u8]) -> Piece
+    ensures { λ r. ⌜ r .moved ≡ moved ⌝ }
+{
+    let got = streams::count(moved, space);
+    let fed = before.feed(&space[..got]);
+    let replay = fed.replay;
+    Piece { replay, moved }
 }
 
 // The next piece of standard input.
 fn turn(before: Replay) -> Piece {
     let mut space = io::large_buffer();
-    let got = io::read_full(STDIN_FILENO, &mut space);
-    let fed = before.feed(&space[..got]);
-    let replay = fed.replay;
-    Piece { replay, got }
+    let moved = streams::read(&mut space);
+    fed(before, moved, &space)
 }
 
 // No input has more pieces.
-fn read_all() -> Replay {
+fn read_all() -> Piece {
     let mut replay = Replay::new();
     for _ in 0..18446744073709551615u64 {
         let next = turn(replay);
         replay = next.replay;
-        if next.got == 0 {
-            break;
-        }
+        let moved = next.moved;
+        let Moved::All = moved else {
+            return Piece { replay, moved };
+        };
     }
-    replay
+    Piece {
+        replay,
+        moved: Moved::All,
+    }
 }
 
 fn main() {
     let mut out = [0u8; 512];
-    let Written::Bytes(size) = report::print(read_all(), &mut out) else {
+    let read = read_all();
+    let moved = read.moved;
+    let Moved::Part(_) = moved else {
+        streams::unread(b"replay: standard input");
+        return;
+    };
+    let Written::Bytes(size) = report::print(read.replay, &mut out) else {
         return;
     };
     if 512 < size {
         return;
     }
-    io::write_all(STDOUT_FILENO, &out[..size]);
+    streams::tell(b"replay: standard output", moved, &out[..size]);
 }

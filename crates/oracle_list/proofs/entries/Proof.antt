@@ -12,33 +12,37 @@ Inv-loop tally₀ counter₀ tally counter = counter ≤ 1000000
 abbrev μ-loop : tie.MeasureT-loop
 μ-loop tally₀ counter₀ tally counter = 1000000 - counter
 
--- src/main.rt:155:5
+-- src/main.rt:193:5
 loop-holds : tie.Need-loop-holds Inv-loop μ-loop
 loop-holds c = search needs
 
--- src/main.rt:156:9
+-- src/main.rt:194:9
 entry-requires : tie.Need-entry-requires Inv-loop μ-loop
 entry-requires c κs = search needs
 
--- src/main.rt:155:9
+-- src/main.rt:193:9
 add-counter : tie.Need-add-counter Inv-loop μ-loop
 add-counter c = search needs
 
--- src/main.rt:155:5
+-- src/main.rt:193:5
 loop-less : tie.Need-loop-less Inv-loop μ-loop
 loop-less c = search needs
 
--- src/main.rt:155:5
+-- src/main.rt:193:5
 loop-again : tie.Need-loop-again Inv-loop μ-loop
 loop-again c = search needs
 
--- src/main.rt:149:1
+-- src/main.rt:186:1
 returns : tie.Need-returns Inv-loop μ-loop
 returns c = search needs
 
--- src/main.rt:149:1
+-- src/main.rt:186:1
 returns-2 : tie.Need-returns-2 Inv-loop μ-loop
 returns-2 c = search needs
+
+-- src/main.rt:186:1
+returns-3 : tie.Need-returns-3 Inv-loop μ-loop
+returns-3 c = search needs
 
 pub entries-spec : {M : Type 1} → statement M
 entries-spec =
@@ -52,4 +56,5 @@ entries-spec =
     loop-less
     loop-again
     returns
-    returns-2)
+    returns-2
+    returns-3)

@@ -5,7 +5,7 @@ use Rattle.pieces.proofs.print.Statement.{statement}
 use Rattle.pieces.proofs.print.Tie as tie
 use Rattle.pieces.proofs.print.Reads as reads
 use Rattle.pieces.proofs.print.Lts as lts
-use Rattle.io.proofs.write_all.Reads as write-all-reads
+use Rattle.pieces.proofs.put.Reads as put-reads
 use Rattle.report.proofs.print.Reads as print-reads
 
 -- src/main.rt:14:54
@@ -37,12 +37,12 @@ array-share-prefix-out : tie.Need-array-share-prefix-out
 array-share-prefix-out c = search needs
 
 -- src/main.rt:20:34
-slice-aggregate-write-all : tie.Need-slice-aggregate-write-all
-slice-aggregate-write-all c = sym (length-take-le _ _ (search needs))
+slice-aggregate-put : tie.Need-slice-aggregate-put
+slice-aggregate-put c = sym (length-take-le _ _ (search needs))
 
 -- src/main.rt:20:5
-write-all-requires : tie.Need-write-all-requires
-write-all-requires c κs = search needs
+put-requires : tie.Need-put-requires
+put-requires c κs = search needs
 
 -- src/main.rt:12:1
 returns-3 : tie.Need-returns-3
@@ -59,6 +59,6 @@ print-spec =
     returns
     returns-2
     array-share-prefix-out
-    slice-aggregate-write-all
-    write-all-requires
+    slice-aggregate-put
+    put-requires
     returns-3)

@@ -5,8 +5,8 @@ use Rattle.watch.proofs.print.Statement.{statement}
 use Rattle.watch.proofs.print.Tie as tie
 use Rattle.watch.proofs.print.Reads as reads
 use Rattle.watch.proofs.print.Lts as lts
-use Rattle.io.proofs.write_all.Reads as write-all-reads
 use Rattle.report.proofs.print.Reads as print-reads
+use Rattle.streams.proofs.say.Reads as say-reads
 
 -- src/main.rt:16:54
 slice-aggregate-print : tie.Need-slice-aggregate-print
@@ -36,17 +36,21 @@ returns-2 c = search needs
 returns-3 : tie.Need-returns-3
 returns-3 c = search needs
 
--- src/main.rt:26:34
+-- src/main.rt:26:18
+slice-aggregate-say : tie.Need-slice-aggregate-say
+slice-aggregate-say c = search needs
+
+-- src/main.rt:26:45
 array-share-prefix-out : tie.Need-array-share-prefix-out
 array-share-prefix-out c = search needs
 
--- src/main.rt:26:34
-slice-aggregate-write-all : tie.Need-slice-aggregate-write-all
-slice-aggregate-write-all c = sym (length-take-le _ _ (search needs))
+-- src/main.rt:26:45
+slice-aggregate-say-2 : tie.Need-slice-aggregate-say-2
+slice-aggregate-say-2 c = sym (length-take-le _ _ (search needs))
 
 -- src/main.rt:26:5
-write-all-requires : tie.Need-write-all-requires
-write-all-requires c κs = search needs
+say-requires : tie.Need-say-requires
+say-requires c κs = search needs
 
 -- src/main.rt:14:1
 returns-4 : tie.Need-returns-4
@@ -63,7 +67,8 @@ print-spec =
     returns
     returns-2
     returns-3
+    slice-aggregate-say
     array-share-prefix-out
-    slice-aggregate-write-all
-    write-all-requires
+    slice-aggregate-say-2
+    say-requires
     returns-4)
