@@ -1,4 +1,6 @@
 // The shape rules of what a round stores beside its votes: heard weights and blocks.
+#![tactic(auto)]
+
 ghost use Rattle.std.specs.Prelude.{◌≡◌};
 ghost use Rattle.nodes.specs.Nodes.{Falls};
 ghost use Rattle.answer_shape.specs.Stored.{stored, all_stored, weighed};

@@ -1,4 +1,6 @@
 // The answers of a round: `update` of round.rs and its two GHOSTs, on lent columns.
+#![tactic(auto)]
+
 ghost use Rattle.std.specs.Prelude.{◌≡◌, List, ℕ};
 ghost use Rattle.lent.specs.Moment.{given, before, plain};
 ghost use Rattle.nodes.specs.Columns.{graph_at};
@@ -12,7 +14,7 @@ use sizes::{BLOCKS, VOTERS, WORDS};
 
 // The stored blocks by place: the Rust's `prevote_ghost` and `precommit_ghost`, `finalized`, `estimate`; and
 // `completable`.
-#[derive(Drop)]
+#[derive(Clone, Copy)]
 pub struct Answers {
     pub prevote: Found,
     pub precommit: Found,
@@ -22,7 +24,7 @@ pub struct Answers {
 }
 
 // Heard weights.
-#[derive(Drop)]
+#[derive(Clone, Copy)]
 pub struct Heard {
     pub prevote: u64,
     pub precommit: u64,

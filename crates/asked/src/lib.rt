@@ -1,6 +1,8 @@
 // Every call on a round, counted by whether it answers 9. The arguments are such that an undamaged round refuses none of them with 9.
 //
 // This serves the program `damaged`, which is judged by its stored output: the functions are proved safe and ending, and promise no more.
+#![tactic(auto)]
+
 use blocks::Answer;
 use context::Phase;
 use judging::ImportResult;
@@ -15,14 +17,14 @@ use two_views::Views;
 pub const CALLS: u64 = 26;
 
 // How many calls answered 9, and how many changed the round or the bytes that they were handed.
-#[derive(Drop)]
+#[derive(Clone, Copy)]
 struct Tally {
     nines: u64,
     changed: u64,
 }
 
 // The same of all calls, and whether `new` refuses.
-#[derive(Drop)]
+#[derive(Clone, Copy)]
 pub struct Asked {
     pub nines: u64,
     pub changed: u64,
@@ -172,7 +174,7 @@ fn moved(words: &[u64; SIZE], after: Round) -> u64 {
 }
 
 // A call's nine, and the round that it handed back.
-#[derive(Drop)]
+#[derive(Clone, Copy)]
 struct Back {
     nine: u64,
     round: Round,

@@ -1,5 +1,7 @@
 // The library that consoles link: calls on journals' bytes and a lent buffer, for C and Rust. None asks anything of its caller.
 // A call returns how many bytes it wrote from the start of `out`, or 4294967296 and the number of its refusal; then `out` is as it was.
+#![tactic(auto)]
+
 ghost use Rattle.std.specs.Prelude.{◌≡◌, ◌+◌};
 ghost use Rattle.beamtassel.specs.Calls.{Call, number_of, has_round, weighed, replay_call, print_call, finalizing_call, two_views_call, version};
 

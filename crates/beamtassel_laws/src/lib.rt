@@ -1,1 +1,2 @@
 // No code: what the calls that consoles link can answer.
+#![tactic(auto)]

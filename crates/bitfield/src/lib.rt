@@ -1,5 +1,7 @@
 // Sets of bits by value: bitfield.rs of finality-grandpa. There the words grow as bits are set; here there are
 // always WORDS, enough for VOTERS with two bits each, and a bit past them is never set.
+#![tactic(auto)]
+
 ghost use Rattle.std.specs.Prelude.{◌≡◌, ◌<◌, ◌-◌, ◌%◌, get_or, replicate};
 ghost use Rattle.std.specs.Int.Bits.{bit_and};
 ghost use Rattle.sizes.specs.Sizes.{WORDS};
@@ -9,26 +11,26 @@ ghost use Rattle.bitfield.specs.Walk.{first_of, next};
 use sizes::{WORD, WORDS};
 
 // A bit that is set.
-#[derive(Drop)]
+#[derive(Clone, Copy)]
 pub struct Bit1 {
     pub position: usize,
 }
 
-#[derive(Drop)]
+#[derive(Clone, Copy)]
 pub enum Found {
     Nothing,
     At(Bit1),
 }
 
 // What a step of a walk finds, and the words that are left to walk.
-#[derive(Drop)]
+#[derive(Clone, Copy)]
 pub struct Step {
     pub found: Found,
     pub left: [u64; WORDS],
 }
 
 // A set bit of a word, and the word without it.
-#[derive(Drop)]
+#[derive(Clone, Copy)]
 struct First {
     at: usize,
     rest: u64,

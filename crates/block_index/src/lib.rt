@@ -1,5 +1,7 @@
 // Where a block's id stands, found by a table of slots that is lent beside the table of blocks: a record of the journal that
 // adds a block asks it twice, and a search each time would cost by the number of blocks.
+#![tactic(auto)]
+
 ghost use Rattle.std.specs.Prelude.{◌≡◌, ◌≤◌, length};
 ghost use Rattle.sizes.specs.Sizes.{BLOCKS};
 ghost use Rattle.blocks.specs.Table.{table_of};

@@ -1,4 +1,6 @@
 // Whether columns handed in keep the shape rules of a table.
+#![tactic(auto)]
+
 ghost use Rattle.std.specs.Prelude.{◌≡◌, ◌≤◌, ◌<◌, length};
 ghost use Rattle.sizes.specs.Sizes.{BLOCKS};
 ghost use Rattle.blocks.specs.Table.{table_of};

@@ -1,4 +1,6 @@
 // The table of blocks by value: every call tests what it is handed, and refuses a table that breaks the shape rules.
+#![tactic(auto)]
+
 ghost use Rattle.std.specs.Prelude.{◌≡◌};
 ghost use Rattle.block_shape.specs.Shape.{tabled};
 ghost use Rattle.block_table.specs.Add.{opened, add};
@@ -8,7 +10,7 @@ pub use blocks::{Added, Answer, BlockTable, Place};
 use sizes::BLOCKS;
 
 // Where a block stands, asked of a table of anyone's making.
-#[derive(Drop)]
+#[derive(Clone, Copy)]
 pub enum Block {
     At(u8),
     Nothing,
@@ -16,7 +18,7 @@ pub enum Block {
 }
 
 // A block's number.
-#[derive(Drop)]
+#[derive(Clone, Copy)]
 pub enum BlockNumber {
     Is(u32),
     Nothing,
@@ -24,7 +26,7 @@ pub enum BlockNumber {
 }
 
 // Whether a block lies at or below another. Where one of the places holds no block, it does not.
-#[derive(Drop)]
+#[derive(Clone, Copy)]
 pub enum Below {
     Yes,
     No,

@@ -1,5 +1,7 @@
 // The blocks that a round knows, as a table that is held: the `Chain` of lib.rs, which is a trait there. The calls work on
 // lent columns: a caller that can show the shape pays no test of it, and copies no table.
+#![tactic(auto)]
+
 ghost use Rattle.std.specs.Prelude.{◌≡◌, ℕ, ◌≤◌, ◌<◌, get_or};
 ghost use Rattle.sizes.specs.Sizes.{BLOCKS};
 ghost use Rattle.grandpa.specs.Tree.{Tabled, below};
@@ -13,7 +15,7 @@ use sizes::BLOCKS;
 // The blocks by place, with unused places 0. A parent is a place; the root is its own. The fields are public, so that
 // the columns can be lent: a table of anyone's making can be handed in, and `is_table` tells it from one that was
 // built by calls.
-#[derive(Drop)]
+#[derive(Clone, Copy)]
 pub struct BlockTable {
     pub ids: [u32; BLOCKS],
     pub numbers: [u32; BLOCKS],
@@ -22,21 +24,21 @@ pub struct BlockTable {
 }
 
 // What adding a block gives: its place, or the number of the refusal.
-#[derive(Drop)]
+#[derive(Clone, Copy)]
 pub enum Answer {
     Placed(u8),
     Refused(u8),
 }
 
 // The answer and the table beside it: an enum holds no array.
-#[derive(Drop)]
+#[derive(Clone, Copy)]
 pub struct Added {
     pub answer: Answer,
     pub table: BlockTable,
 }
 
 // Where a block stands.
-#[derive(Drop)]
+#[derive(Clone, Copy)]
 pub enum Place {
     At(u8),
     Nothing,

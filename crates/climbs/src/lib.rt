@@ -1,4 +1,6 @@
 // Climbs up the table, on lent columns. Places fit a byte, and a byte indexes every column.
+#![tactic(auto)]
+
 ghost use Rattle.std.specs.Prelude.{◌≡◌, ◌<◌};
 ghost use Rattle.sizes.specs.Sizes.{BLOCKS};
 ghost use Rattle.grandpa.specs.Tree.{below};

@@ -1,4 +1,6 @@
 // Columns of numbers: arrays lent as slices, of which the first `count` places are used.
+#![tactic(auto)]
+
 ghost use Rattle.std.specs.Prelude.{◌≡◌, ◌+◌, ◌-◌, ◌≤◌, min, length};
 ghost use Rattle.loops.specs.Loop.{first};
 ghost use Rattle.loops.specs.All.{any};
@@ -6,7 +8,7 @@ ghost use Rattle.columns.specs.declared.Found.TheVariants.{At, Nothing};
 ghost use Rattle.columns.specs.Find.{used, is_at, find, contains};
 
 // Where a number stands in a column.
-#[derive(Drop)]
+#[derive(Clone, Copy)]
 pub enum Found {
     At(usize),
     Nothing,

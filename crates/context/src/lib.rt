@@ -1,4 +1,6 @@
 // Votes as bits and their weight, equivocators joined in: round/context.rs of finality-grandpa.
+#![tactic(auto)]
+
 ghost use Rattle.std.specs.Prelude.{◌≡◌, ◌<◌, min};
 ghost use Rattle.weights.specs.Weights.{most};
 ghost use Rattle.sizes.specs.Sizes.{VOTERS, VOTES};
@@ -13,27 +15,27 @@ use weights::VoteWeight;
 
 pub mod weighing;
 
-#[derive(Drop)]
+#[derive(Clone, Copy)]
 pub enum Phase {
     Prevote,
     Precommit,
 }
 
 // The voters of a round, and who equivocated.
-#[derive(Drop)]
+#[derive(Clone, Copy)]
 pub struct Context {
     pub voters: VoterSet,
     pub equivocations: [u64; WORDS],
 }
 
 // A single vote that can be put into a node.
-#[derive(Drop)]
+#[derive(Clone, Copy)]
 pub struct Vote {
     pub bit: Bit1,
 }
 
 // A node on which votes gather. Its weight is always asked in a context, for the equivocators' sake.
-#[derive(Drop)]
+#[derive(Clone, Copy)]
 pub struct VoteNode {
     pub bits: [u64; WORDS],
 }

@@ -5,6 +5,8 @@
 // What passes is what no rule tests: the round's number; ids of voters that still rise; the id of a block that is no other's, where the
 // heads still lie by rising id; the number of a root that is alone; a parent of the same number, where nodes, bits and stored blocks
 // stay right; signatures and second pairs that are recorded; indices of at most 256; stored blocks at or below the base, and completable.
+#![tactic(auto)]
+
 use damaging::{Kind, Sums};
 use round_words::SIZE;
 use sizes::{BLOCKS, HISTORY, VOTERS, VOTES, WORDS};

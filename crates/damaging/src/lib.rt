@@ -1,11 +1,13 @@
 // Rounds with words changed, and what all calls say of them: one word in each of the ways that its field can be wrong, or several at once.
 //
 // This serves the program `damaged`, which is judged by its stored output: the functions are proved safe and ending, and promise no more.
+#![tactic(auto)]
+
 use asked::Asked;
 use round_words::SIZE;
 
 // What a field holds: numbers of some width, a count with its size, flags, an index of history, a stored block.
-#[derive(Drop)]
+#[derive(Clone, Copy)]
 pub enum Kind {
     Byte,
     Entry,
@@ -102,7 +104,7 @@ fn value(kind: Kind, x: u64, way: usize) -> u64 {
 
 // How many damaged rounds there were, those that every call refused and those that none did; those on which the calls disagreed, and
 // what refusing calls changed; and how many of their voters and tables `new` refused.
-#[derive(Drop)]
+#[derive(Clone, Copy)]
 pub struct Sums {
     pub damaged: u64,
     pub refused: u64,

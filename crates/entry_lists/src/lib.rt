@@ -1,4 +1,6 @@
 // Lists of entries of history, as `layouts` has them, and the test that a column of them has the marked entries.
+#![tactic(auto)]
+
 ghost use Rattle.std.specs.Prelude.{◌≡◌, ◌≤◌, length};
 ghost use Rattle.sizes.specs.Sizes.{HISTORY};
 ghost use Rattle.columns.specs.Blank.{blank};
@@ -7,7 +9,7 @@ ghost use Rattle.graph_lists.specs.Listed.{none_left, once_each, laid};
 use sizes::HISTORY;
 
 // Entries of history in an order.
-#[derive(Drop)]
+#[derive(Clone, Copy)]
 pub struct Entries {
     pub entries: [u16; HISTORY],
     pub count: usize,

@@ -1,5 +1,7 @@
 // A journal's replay: as a function on bytes, and as a state that takes bytes piece by piece, so that a journal of any length is replayed in
 // constant memory.
+#![tactic(auto)]
+
 ghost use Rattle.std.specs.Prelude.{◌≡◌, [], ◌++◌, ◌≤◌, length, take, drop, T};
 ghost use Rattle.weights.specs.Weights.{plus};
 ghost use Rattle.held_laws.specs.Kept.{Kept};
@@ -14,13 +16,13 @@ use journal::{Journal, Progress};
 use marks::{End, Record};
 
 // The bytes of a record that is not whole yet; places past the count are not looked at.
-#[derive(Drop)]
+#[derive(Clone, Copy)]
 pub struct Rest {
     pub bytes: [u8; 22],
     pub count: usize,
 }
 
-#[derive(Drop)]
+#[derive(Clone, Copy)]
 pub enum Stop {
     Open,
     Refused(u8),
@@ -28,7 +30,7 @@ pub enum Stop {
 
 // A replay between two pieces of its journal. A refused record stops it: what was told before stays, and the refused record is the one after
 // those taken.
-#[derive(Drop)]
+#[derive(Clone, Copy)]
 pub struct Replay {
     pub journal: Journal,
     pub rest: Rest,
@@ -36,14 +38,14 @@ pub struct Replay {
     pub stop: Stop,
 }
 
-#[derive(Drop)]
+#[derive(Clone, Copy)]
 pub struct Fed {
     pub answer: Stop,
     pub replay: Replay,
 }
 
 // A record's bytes from two pieces.
-#[derive(Drop)]
+#[derive(Clone, Copy)]
 pub struct Joint {
     pub bytes: [u8; 44],
     pub count: usize,
@@ -55,7 +57,7 @@ fn rest_of(left: &[u8]) -> Rest
     ensures { result ≡ kept_rest left.now }
 {
     let mut kept = [0u8; 22];
-    bytes::copy(left, &mut kept);
+    spans::copy(left, &mut kept);
     Rest {
         bytes: kept,
         count: left.len(),
@@ -124,8 +126,8 @@ fn lay(held: [u8; 22], count: usize, part: &[u8]) -> Joint
     ensures { (result ≡ laid (take count held ++ part.now)) × (length held ≡ 22) }
 {
     let mut both = [0u8; 44];
-    bytes::copy(&held[..count], &mut both);
-    bytes::copy(part, &mut both[count..]);
+    spans::copy(&held[..count], &mut both);
+    spans::copy(part, &mut both[count..]);
     Joint {
         bytes: both,
         count: count + part.len(),

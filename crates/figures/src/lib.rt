@@ -1,4 +1,6 @@
 // What a replay tells, as 22 numbers at fixed places of a lent buffer: eight bytes each, little-endian, 176 in all.
+#![tactic(auto)]
+
 ghost use Rattle.std.specs.Prelude.{◌≡◌, ◌++◌, cond, ◌≤◌, length, drop};
 ghost use Rattle.weights.specs.Weights.{plus};
 ghost use Rattle.records.specs.Bytes.{little};
@@ -10,7 +12,7 @@ use round::Told;
 use summary::{Outcome, Summary};
 
 // How a replay ended: 0 with a round, 1 without one, 2 at a refused record; the refusal's number; the record refused, counted from 1.
-#[derive(Drop)]
+#[derive(Clone, Copy)]
 pub struct Ended {
     pub kind: u64,
     pub refusal: u64,
@@ -18,7 +20,7 @@ pub struct Ended {
 }
 
 // Whether there is a block, its id and its number.
-#[derive(Drop)]
+#[derive(Clone, Copy)]
 pub struct Block {
     pub known: u64,
     pub id: u64,
@@ -140,7 +142,7 @@ pub fn put(out: &mut [u8], n: u64)
         (n / 256 / 256 / 256 / 256 / 256 / 256 % 256) as u8,
         (n / 256 / 256 / 256 / 256 / 256 / 256 / 256 % 256) as u8,
     ];
-    bytes::copy(&word, out);
+    spans::copy(&word, out);
 }
 
 // Numbers one after the other.

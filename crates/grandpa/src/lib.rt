@@ -1,4 +1,6 @@
 // The numbers of a round, in code where the Rust has them; specs/ says what a round's answers mean.
+#![tactic(auto)]
+
 ghost use Rattle.std.specs.Prelude.{◌≡◌, min};
 ghost use Rattle.grandpa.specs.Weight.{threshold};
 ghost use Rattle.grandpa.specs.Possible.{asked, enough};
@@ -27,7 +29,7 @@ pub fn threshold(total: u64) -> u64
 
 // What the closure `possible_to_precommit` in `update` of round.rs holds: the precommit weight heard, the
 // equivocations still to be had, the weight not heard, and the threshold.
-#[derive(Drop)]
+#[derive(Clone, Copy)]
 pub struct PossibleToPrecommit {
     pub current: u64,
     pub additional: u64,

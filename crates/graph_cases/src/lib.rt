@@ -1,1 +1,2 @@
 // No code: worked examples of the shape test of a vote graph.
+#![tactic(auto)]

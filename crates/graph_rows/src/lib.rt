@@ -1,5 +1,7 @@
 // The bits of the vote-nodes, one row a block place. A struct's field holds rows, which cannot be lent; the inner calls are
 // lent words. So the edge copies one into the other.
+#![tactic(auto)]
+
 ghost use Rattle.std.specs.Prelude.{◌≡◌, length};
 ghost use Rattle.sizes.specs.Sizes.{WORDS, BLOCKS};
 ghost use Rattle.graph_rows.specs.Rows.{words_of, rows_of, Paired};
@@ -7,7 +9,7 @@ ghost use Rattle.graph_rows.specs.Rows.{words_of, rows_of, Paired};
 use sizes::{BLOCKS, WORDS};
 
 // A node's bits.
-#[derive(Drop)]
+#[derive(Clone, Copy)]
 pub struct Row {
     pub bits: [u64; WORDS],
 }

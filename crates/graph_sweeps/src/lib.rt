@@ -1,5 +1,7 @@
 // The sweeps down the table that test a vote graph, on lent columns: parents are earlier, so that what is known of a parent is
 // known by then.
+#![tactic(auto)]
+
 ghost use Rattle.std.specs.Prelude.{◌≡◌, cond, not, ◌&&◌, ◌||◌, ◌<◌, eqb, ltb};
 ghost use Rattle.sizes.specs.Sizes.{BLOCKS};
 ghost use Rattle.nodes.specs.Nodes.{Falls};

@@ -1,4 +1,6 @@
 // The journal's second turn: blocks under the root, up to the Op.
+#![tactic(auto)]
+
 ghost use Rattle.std.specs.Prelude.{◌≡◌, ◌≤◌, length, drop};
 ghost use Rattle.sizes.specs.Sizes.{BLOCKS};
 ghost use Rattle.marks.specs.declared.Mark.TheVariants.{Bk};
@@ -15,14 +17,14 @@ use marks::{End, Mark, Record, Turn};
 use sizes::BLOCKS;
 
 // The blocks after a record, and whether the turn goes on.
-#[derive(Drop)]
+#[derive(Clone, Copy)]
 pub struct Took {
     pub turn: Turn,
     pub blocks: usize,
 }
 
 // The blocks after a run over some bytes, the records taken, the bytes that they have, and why no more are taken.
-#[derive(Drop)]
+#[derive(Clone, Copy)]
 pub struct Grown {
     pub blocks: usize,
     pub count: u64,

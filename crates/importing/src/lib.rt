@@ -1,4 +1,6 @@
 // How a vote is taken: `import_prevote` and `import_precommit` of round.rs, on lent columns.
+#![tactic(auto)]
+
 ghost use Rattle.std.specs.Prelude.{◌≡◌};
 ghost use Rattle.weights.specs.Weights.{plus};
 ghost use Rattle.lent.specs.Moment.{given, before, after};
@@ -15,7 +17,7 @@ use tracker::Pair;
 use weights::{VoteWeight, VoterWeight};
 
 // What a vote changes beside columns: nodes listed, heads, entries of history, equivocators' bits, heard weights, answers.
-#[derive(Drop)]
+#[derive(Clone, Copy)]
 pub struct Standing {
     pub listed: usize,
     pub tips: usize,
@@ -25,7 +27,7 @@ pub struct Standing {
     pub answers: Answers,
 }
 
-#[derive(Drop)]
+#[derive(Clone, Copy)]
 pub struct Step {
     pub answer: ImportResult,
     pub standing: Standing,

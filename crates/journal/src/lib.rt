@@ -1,5 +1,7 @@
 // A journal's state by value, and a run over some bytes of it. The columns are lent to the loops of the crates below, once for all records
 // of the bytes.
+#![tactic(auto)]
+
 ghost use Rattle.std.specs.Prelude.{◌≡◌, ◌+◌, ◌≤◌, length, take};
 ghost use Rattle.sizes.specs.Sizes.{PAIRS};
 ghost use Rattle.weights.specs.Weights.{most};
@@ -25,7 +27,7 @@ use vote_graph::VoteGraph;
 use voter_set::{Answer, NewVoterSet, VoterSet};
 
 // Which records may come.
-#[derive(Drop)]
+#[derive(Clone, Copy)]
 pub enum Turn {
     Voters,
     Blocks,
@@ -34,7 +36,7 @@ pub enum Turn {
 
 // What a journal has told so far. Before the Rt these are the pairs, before the Op the round's voters and its table, then the round; what is
 // not yet told is blank.
-#[derive(Drop)]
+#[derive(Clone, Copy)]
 pub struct Journal {
     pub turn: Turn,
     pub pairs: Pairs,
@@ -42,7 +44,7 @@ pub struct Journal {
 }
 
 // A run over some bytes: what they tell, the records taken, the bytes that these have, and why no more are taken.
-#[derive(Drop)]
+#[derive(Clone, Copy)]
 pub struct Progress {
     pub journal: Journal,
     pub count: u64,

@@ -1,4 +1,6 @@
 // What is to be done with a vote: rules 1 to 5 of document 01, "How a vote is taken", and refusals 11, 12, 13. Nothing is changed here.
+#![tactic(auto)]
+
 ghost use Rattle.std.specs.Prelude.{◌≡◌, ◌≤◌, ◌<◌};
 ghost use Rattle.sizes.specs.Sizes.{VOTERS, BLOCKS};
 ghost use Rattle.lent.specs.Moment.{before};
@@ -16,7 +18,7 @@ use tracker::{AddVoteResult, Pair};
 use voter_info::{Lookup, VoterInfo};
 
 // Both pairs of an equivocator in arrival order.
-#[derive(Drop)]
+#[derive(Clone, Copy)]
 pub struct Equivocation {
     pub number: u64,
     pub identity: u32,
@@ -25,7 +27,7 @@ pub struct Equivocation {
 }
 
 // `ImportResult`: a signer outside the set; a first vote; a duplicate; an equivocation; a third pair; a refusal.
-#[derive(Drop)]
+#[derive(Clone, Copy)]
 pub enum ImportResult {
     Outside,
     Counted,
@@ -37,7 +39,7 @@ pub enum ImportResult {
 
 // What is to be done with a vote: nothing, with the answer; a first vote by a voter for the block at a place; the second of a
 // voter, with the first beside it.
-#[derive(Drop)]
+#[derive(Clone, Copy)]
 pub enum Verdict {
     Nothing(ImportResult),
     First(VoterInfo, u8),

@@ -1,5 +1,7 @@
 // Where the votes of a voter stand: the index of its votes in a phase, which is also its bit, and the entries of history of an
 // index. No other crate computes with an index or an entry. A phase is 0 for prevotes, 1 for precommits.
+#![tactic(auto)]
+
 ghost use Rattle.std.specs.Prelude.{◌≡◌, ◌-◌, ◌^◌, ◌<◌, min};
 ghost use Rattle.sizes.specs.Sizes.{VOTERS, VOTES, HISTORY};
 ghost use Rattle.layouts.specs.Layout.{index, index_place, index_phase, entry, entry_index, entry_pair};

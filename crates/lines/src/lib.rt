@@ -1,5 +1,7 @@
 // The lines that a replay prints, written from the start of a lent array of 512 bytes; what stands after them stays. A number has at
 // most 20 digits, so that no text has more than 432 bytes.
+#![tactic(auto)]
+
 ghost use Rattle.std.specs.Prelude.{◌++◌, ◌≡◌, ◌+◌, ◌≤◌, length, drop};
 ghost use Rattle.lines.specs.Lines.{decimal, named, line, heard_line, block_end, block_line, completable_line, answer_lines, refused, no_round, round_lines};
 ghost use Rattle.lines.specs.Put.{Put};
@@ -13,7 +15,7 @@ fn put_in(out: &mut [u8], at: usize, s: &[u8]) -> usize
     requires { at + length s.now ≤ length out.old }
     ensures { Put out.old at s.now out.new result }
 {
-    bytes::copy(s, &mut out[at..]);
+    spans::copy(s, &mut out[at..]);
     at + s.len()
 }
 

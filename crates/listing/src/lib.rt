@@ -1,4 +1,6 @@
 // Lists of recorded votes, as entries of history.
+#![tactic(auto)]
+
 ghost use Rattle.std.specs.Prelude.{◌≡◌, ◌≤◌, ◌<◌};
 ghost use Rattle.sizes.specs.Sizes.{VOTERS, VOTES, HISTORY};
 ghost use Rattle.loops.specs.Listing.{front, keep};
@@ -15,7 +17,7 @@ use sizes::{BLOCKS, HISTORY, VOTERS, VOTES};
 use tracker::{Pair, VoteMultiplicity};
 
 // The votes of a phase; or the precommits that finalize the block at a place.
-#[derive(Drop)]
+#[derive(Clone, Copy)]
 pub enum Wanted {
     Of(Phase),
     Finalizing(u8),
@@ -98,7 +100,7 @@ pub fn entries_of<'a>(
 }
 
 // How many bytes were written, or a refusal's number.
-#[derive(Drop)]
+#[derive(Clone, Copy)]
 pub enum Written {
     Bytes(usize),
     Refused(u8),

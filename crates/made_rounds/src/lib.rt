@@ -1,6 +1,8 @@
 // Rounds made by calls, as words: an opened one, document 01's case J, J with an equivocation, and one of 64 voters on 50 blocks.
 //
 // This serves the program `damaged`, which is judged by its stored output: the functions are proved safe and ending, and promise no more.
+#![tactic(auto)]
+
 use context::Phase;
 use round::Round;
 use round_words::SIZE;

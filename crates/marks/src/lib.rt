@@ -1,8 +1,10 @@
 // The journal's records as they are read: the mark, and the fields as a part of the caller's bytes.
+#![tactic(auto)]
+
 ghost use Rattle.std.specs.Prelude.{◌≡◌, ◌+◌, ◌≤◌, ◌<◌, length};
 ghost use Rattle.marks.specs.Marks.{named, size, read, fields, word, long, ending};
 
-#[derive(Drop)]
+#[derive(Clone, Copy)]
 pub enum Mark {
     Vt,
     Rt,
@@ -13,14 +15,14 @@ pub enum Mark {
 }
 
 // What two bytes name.
-#[derive(Drop)]
+#[derive(Clone, Copy)]
 pub enum Named {
     Known(Mark),
     Unknown,
 }
 
 // What stands at the start of some bytes.
-#[derive(Drop)]
+#[derive(Clone, Copy)]
 pub enum Record {
     Whole(Mark),
     Cut,
@@ -28,7 +30,7 @@ pub enum Record {
 }
 
 // Why a loop over records ends: the bytes end in a record or after one, a record is refused, or a record ends the turn.
-#[derive(Drop)]
+#[derive(Clone, Copy)]
 pub enum End {
     Cut,
     Refused(u8),
@@ -36,7 +38,7 @@ pub enum End {
 }
 
 // What a record does to a loop over records: it goes on after the record, or is over at it.
-#[derive(Drop)]
+#[derive(Clone, Copy)]
 pub enum Turn {
     Goes,
     Over(End),

@@ -1,5 +1,7 @@
 // Vote-nodes on lent columns: lists of them, joined bits, and the questions that are asked of them. A node is the place of
 // its block.
+#![tactic(auto)]
+
 ghost use Rattle.std.specs.Prelude.{◌≡◌, ◌≤◌, ◌<◌};
 ghost use Rattle.sizes.specs.Sizes.{BLOCKS};
 ghost use Rattle.loops.specs.Listing.{front, keep};
@@ -14,28 +16,28 @@ use grandpa::PossibleToPrecommit;
 use sizes::{BLOCKS, VOTERS, WORDS};
 
 // Places in the order in which they were found.
-#[derive(Drop)]
+#[derive(Clone, Copy)]
 pub struct Places {
     pub places: [u8; BLOCKS],
     pub count: usize,
 }
 
 // A block, or none.
-#[derive(Drop)]
+#[derive(Clone, Copy)]
 pub enum Found {
     At(u8),
     Nothing,
 }
 
 // The two questions that the Rust asks by closures.
-#[derive(Drop)]
+#[derive(Clone, Copy)]
 pub enum Condition {
     AtLeast(u64),
     Possible(PossibleToPrecommit),
 }
 
 // A question, the phase it is asked of, and who equivocated.
-#[derive(Drop)]
+#[derive(Clone, Copy)]
 pub struct Question {
     pub phase: Phase,
     pub condition: Condition,

@@ -1,4 +1,6 @@
 // Document 01's "Numbers to hold it to" that the crates below a round can answer, one line each.
+#![tactic(auto)]
+
 use context::{Phase, Vote, VoteNode};
 use voter_info::Lookup;
 use voter_set::{Answer, Nth, VoterSet};

@@ -1,17 +1,19 @@
 // Replays the recorded answers of the Rust: each journal goes in by pieces of another size, and its lines must be those recorded.
+#![tactic(auto)]
+
 ghost use Rattle.std.specs.Prelude.{◌≡◌, ◌≤◌, min, length as length_of};
 
 use feeding::Replay;
 use listing::Written;
 
 // Bytes of standard input that were put into a space, unless reading failed.
-#[derive(Drop)]
+#[derive(Clone, Copy)]
 struct Got {
     bytes: usize,
     failed: bool,
 }
 
-#[derive(Drop)]
+#[derive(Clone, Copy)]
 struct Piece {
     replay: Replay,
     left: usize,
@@ -19,7 +21,7 @@ struct Piece {
 }
 
 // A length, where its four bytes are there.
-#[derive(Drop)]
+#[derive(Clone, Copy)]
 struct Length {
     length: usize,
     whole: bool,
@@ -27,7 +29,7 @@ struct Length {
 }
 
 // What a list has told so far.
-#[derive(Drop)]
+#[derive(Clone, Copy)]
 struct Tally {
     journals: u64,
     equal: u64,

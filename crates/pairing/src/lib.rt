@@ -1,4 +1,6 @@
 // The journal's first turn: the voters' pairs of an id and a weight, up to the Rt.
+#![tactic(auto)]
+
 ghost use Rattle.std.specs.Prelude.{◌≡◌, ◌≤◌, length, drop};
 ghost use Rattle.sizes.specs.Sizes.{PAIRS};
 ghost use Rattle.marks.specs.Marks.{size};
@@ -12,7 +14,7 @@ use marks::{End, Mark, Record, Turn};
 use sizes::PAIRS;
 
 // Pairs in the order in which they came; the first `count` places are used.
-#[derive(Drop)]
+#[derive(Clone, Copy)]
 pub struct Pairs {
     pub ids: [u32; PAIRS],
     pub weights: [u64; PAIRS],
@@ -20,14 +22,14 @@ pub struct Pairs {
 }
 
 // The pairs after a record, and whether the turn goes on.
-#[derive(Drop)]
+#[derive(Clone, Copy)]
 struct Took {
     turn: Turn,
     pairs: usize,
 }
 
 // The pairs after a run over some bytes, the records taken, the bytes that they have, and why no more are taken.
-#[derive(Drop)]
+#[derive(Clone, Copy)]
 pub struct Paired {
     pub pairs: usize,
     pub count: u64,

@@ -1,10 +1,12 @@
 // Replays a journal cut at every byte, and again in pieces of every size up to 40.
+#![tactic(auto)]
+
 use feeding::Replay;
 use libc::STDERR_FILENO;
 use listing::Written;
 use streams::Moved;
 
-#[derive(Drop)]
+#[derive(Clone, Copy)]
 struct Piece {
     replay: Replay,
     at: usize,

@@ -1,4 +1,6 @@
 // The journal's records as bytes: a two-byte mark and fixed fields, little-endian.
+#![tactic(auto)]
+
 ghost use Rattle.std.specs.Prelude.{◌≡◌, ◌++◌, ◌≤◌, length, drop};
 ghost use Rattle.records.specs.Bytes.{second_mark, fields, vote_bytes};
 
@@ -44,7 +46,7 @@ fn put(out: &mut [u8], second: u8, v: u32, t: u32, n: u32, s: u64)
         (s / 256 / 256 / 256 / 256 / 256 / 256 % 256) as u8,
         (s / 256 / 256 / 256 / 256 / 256 / 256 / 256 % 256) as u8,
     ];
-    bytes::copy(&rec, out);
+    spans::copy(&rec, out);
 }
 
 // A vote's record, 22 bytes from the start of what is lent; the bytes after it stay.

@@ -1,11 +1,13 @@
 // Reads a journal from standard input and prints document 01's lines. Of an input that is not read to its end it prints none.
+#![tactic(auto)]
+
 ghost use Rattle.std.specs.Prelude.{◌≡◌};
 
 use feeding::Replay;
 use listing::Written;
 use streams::Moved;
 
-#[derive(Drop)]
+#[derive(Clone, Copy)]
 struct Piece {
     replay: Replay,
     moved: Moved,

@@ -1,1 +1,2 @@
 // No code: what the replay of a journal promises.
+#![tactic(auto)]

@@ -1,4 +1,6 @@
 // What a replay prints.
+#![tactic(auto)]
+
 ghost use Rattle.std.specs.Prelude.{◌≡◌, ◌++◌, length, drop};
 ghost use Rattle.weights.specs.Weights.{plus};
 ghost use Rattle.listing.specs.Written.{Lent};
@@ -47,6 +49,6 @@ pub fn print(replay: Replay, out: &mut [u8]) -> Written
     if out.len() < size {
         return Written::Refused(14);
     }
-    bytes::copy(&text[..size], out);
+    spans::copy(&text[..size], out);
     Written::Bytes(size)
 }

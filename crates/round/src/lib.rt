@@ -1,5 +1,7 @@
 // A round by value: round.rs of finality-grandpa, with its votes, equivocations and `HistoricalVotes` of lib.rs. Each call first tests
 // the round that it is handed (9), also where it only reads; what it does then is done by calls on lent columns in the crates below.
+#![tactic(auto)]
+
 ghost use Rattle.std.specs.Prelude.{◌≡◌, T, length, ◌≤◌};
 ghost use Rattle.sizes.specs.Sizes.{WORDS, HISTORY};
 ghost use Rattle.loops.specs.Listing.{front};
@@ -27,14 +29,14 @@ use voter_info::VoterInfo;
 use voter_set::{Nth, VoterSet};
 
 // How many votes had been seen when this desk voted itself.
-#[derive(Drop)]
+#[derive(Clone, Copy)]
 pub enum Index {
     At(u64),
     Nothing,
 }
 
 // `HistoricalVotes`: recorded votes in arrival order, as entries.
-#[derive(Drop)]
+#[derive(Clone, Copy)]
 pub struct History {
     pub entries: [u16; HISTORY],
     pub count: usize,
@@ -43,7 +45,7 @@ pub struct History {
 }
 
 // The fields are public, so that a state can be stored and handed in again: `is_round` tells a state that keeps the shape rules.
-#[derive(Drop)]
+#[derive(Clone, Copy)]
 pub struct Round {
     pub number: u64,
     pub context: Context,
@@ -56,54 +58,54 @@ pub struct Round {
 }
 
 // Done, or the number of the refusal.
-#[derive(Drop)]
+#[derive(Clone, Copy)]
 pub enum Done {
     Yes,
     Refused(u8),
 }
 
 // The answer and the round beside it: an enum holds no array.
-#[derive(Drop)]
+#[derive(Clone, Copy)]
 pub struct Kept {
     pub answer: Done,
     pub round: Round,
 }
 
-#[derive(Drop)]
+#[derive(Clone, Copy)]
 pub struct Grown {
     pub answer: Answer,
     pub round: Round,
 }
 
-#[derive(Drop)]
+#[derive(Clone, Copy)]
 pub struct Imported {
     pub answer: ImportResult,
     pub round: Round,
 }
 
 // A block by id and number.
-#[derive(Drop)]
+#[derive(Clone, Copy)]
 pub enum Told {
     Block(u32, u32),
     Nothing,
     Refused(u8),
 }
 
-#[derive(Drop)]
+#[derive(Clone, Copy)]
 pub struct Asked {
     pub answer: Told,
     pub round: Round,
 }
 
 // A number that may be absent.
-#[derive(Drop)]
+#[derive(Clone, Copy)]
 pub enum Number {
     Is(u64),
     Nothing,
     Refused(u8),
 }
 
-#[derive(Drop)]
+#[derive(Clone, Copy)]
 pub enum Whether {
     Yes,
     No,
@@ -111,13 +113,13 @@ pub enum Whether {
 }
 
 // The weight heard in a phase, and how many voters.
-#[derive(Drop)]
+#[derive(Clone, Copy)]
 pub enum Participation {
     Heard(u64, u32),
     Refused(u8),
 }
 
-#[derive(Drop)]
+#[derive(Clone, Copy)]
 pub enum Primary {
     Voter(u32, VoterInfo),
     Nothing,
@@ -125,7 +127,7 @@ pub enum Primary {
 }
 
 // `State` of round.rs.
-#[derive(Drop)]
+#[derive(Clone, Copy)]
 pub struct State {
     pub prevote: Told,
     pub finalized: Told,
@@ -133,13 +135,13 @@ pub struct State {
     pub completable: bool,
 }
 
-#[derive(Drop)]
+#[derive(Clone, Copy)]
 pub enum Answered {
     Is(State),
     Refused(u8),
 }
 
-#[derive(Drop)]
+#[derive(Clone, Copy)]
 pub struct Voters {
     pub answer: Done,
     pub voters: VoterSet,

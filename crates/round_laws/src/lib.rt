@@ -1,1 +1,2 @@
 // No code: what calls keep of a round, and which rounds calls reach.
+#![tactic(auto)]

@@ -2,6 +2,8 @@
 // `Round` declares them. A flag is 0 or 1, no block is 256, no index is the largest word.
 //
 // This serves the program `damaged`, which is judged by its stored output: the functions are proved safe and ending, and promise no more.
+#![tactic(auto)]
+
 use answers::{Answers, Heard};
 use blocks::BlockTable;
 use context::Context;

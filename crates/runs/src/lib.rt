@@ -1,1 +1,2 @@
 // Loops over the records of some bytes: definitions and laws, no code.
+#![tactic(auto)]

@@ -1,5 +1,7 @@
 // The sizes of a round, each said once. Document 01, "Sizes".
 // One word has so many bits.
+#![tactic(auto)]
+
 pub const WORD: usize = 64;
 
 // A phase's votes stand in so many words of a set of votes.

@@ -1,5 +1,7 @@
 // Standard input and standard output for the programs: what a call of C answered is told apart, so that no error is taken for an end, and no
 // line is told of an input that was not read to its end.
+#![tactic(auto)]
+
 ghost use Rattle.std.specs.Prelude.{◌≡◌, ◌<◌, min, length};
 ghost use Rattle.io.specs.Counts.{IsPrefixLen};
 ghost use Rattle.streams.specs.Streams.{Inside, Within, Ended, stepped, gone, counted, lost};
@@ -7,7 +9,7 @@ ghost use Rattle.streams.specs.Streams.{Inside, Within, Ended, stepped, gone, co
 use libc::{EINTR, STDERR_FILENO, STDIN_FILENO, STDOUT_FILENO};
 
 // What one call of read or write did.
-#[derive(Drop)]
+#[derive(Clone, Copy)]
 enum Step {
     // So many bytes, at least one.
     Bytes(usize),
@@ -20,7 +22,7 @@ enum Step {
 }
 
 // What came of all the bytes that were to be read or written.
-#[derive(Drop)]
+#[derive(Clone, Copy)]
 pub enum Moved {
     // All of them.
     All,
@@ -31,7 +33,7 @@ pub enum Moved {
 }
 
 // Whether another call is due, after so many bytes.
-#[derive(Drop)]
+#[derive(Clone, Copy)]
 enum Turn {
     On(usize),
     Over(Moved),

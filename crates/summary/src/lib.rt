@@ -1,4 +1,6 @@
 // What a replay tells, without its state: the numbers and answers of a journal's last lines.
+#![tactic(auto)]
+
 ghost use Rattle.std.specs.Prelude.{◌≡◌};
 ghost use Rattle.summary.specs.Summary.{bare, of_round, summed};
 
@@ -9,7 +11,7 @@ use journal::Turn;
 use round::{Round, Told};
 
 // A round; an end before the round was opened; a refused record, which is the one after those taken.
-#[derive(Drop)]
+#[derive(Clone, Copy)]
 pub enum Outcome {
     Voting,
     Early,
@@ -17,7 +19,7 @@ pub enum Outcome {
 }
 
 // Where there is no round, what belongs to one is blank.
-#[derive(Drop)]
+#[derive(Clone, Copy)]
 pub struct Summary {
     pub outcome: Outcome,
     pub records: u64,

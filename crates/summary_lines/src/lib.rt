@@ -1,4 +1,6 @@
 // The lines of a journal, from what its replay tells.
+#![tactic(auto)]
+
 ghost use Rattle.std.specs.Prelude.{◌≡◌, ◌++◌, ◌+◌, ◌≤◌, length, drop};
 ghost use Rattle.weights.specs.Weights.{plus};
 ghost use Rattle.listing.specs.Written.{Lent};
@@ -86,6 +88,6 @@ pub fn print(summary: Summary, out: &mut [u8]) -> Written
     if out.len() < size {
         return Written::Refused(14);
     }
-    bytes::copy(&text[..size], out);
+    spans::copy(&text[..size], out);
     Written::Bytes(size)
 }

@@ -1,5 +1,7 @@
 // What a journal tells, worked out on columns that are lent from turn to turn: the state of the replay is never put together by value,
 // which a short journal would spend most of its time on.
+#![tactic(auto)]
+
 ghost use Rattle.std.specs.Prelude.{◌≡◌, ◌≤◌, length, take};
 ghost use Rattle.sizes.specs.Sizes.{PAIRS};
 ghost use Rattle.voter_set.specs.Voters.{new};

@@ -1,4 +1,6 @@
 // For bench/ alone: the votes of a journal by the public calls of a round, which test the whole round each time. Nothing else stands on it.
+#![tactic(auto)]
+
 ghost use Rattle.std.specs.Prelude.{◌≡◌, length};
 
 use judging::ImportResult;

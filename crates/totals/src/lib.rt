@@ -1,10 +1,12 @@
 // The sum of a lent column of weights, where it fits.
+#![tactic(auto)]
+
 ghost use Rattle.std.specs.Prelude.{◌≡◌};
 ghost use Rattle.totals.specs.Totals.{total_of, summed};
 
 const MOST: u64 = 18446744073709551615;
 
-#[derive(Drop)]
+#[derive(Clone, Copy)]
 pub enum Total {
     Fits(u64),
     Over,

@@ -1,5 +1,7 @@
 // What is recorded of a voter in a phase: `VoteTracker` of round.rs, in columns for both phases. A voter's votes in a phase have an
 // index, which is its bit.
+#![tactic(auto)]
+
 ghost use Rattle.std.specs.Prelude.{◌≡◌, ◌<◌};
 ghost use Rattle.sizes.specs.Sizes.{VOTES};
 ghost use Rattle.lent.specs.Moment.{before};
@@ -10,7 +12,7 @@ use sizes::{BLOCKS, VOTES};
 
 // How many pairs are recorded at an index, 0, 1 or 2; the place of the first pair's target in the block table, and its
 // signature; the second pair as it came, since its target is not looked up. Unused places are 0.
-#[derive(Drop)]
+#[derive(Clone, Copy)]
 pub struct Votes {
     pub counts: [u8; VOTES],
     pub first_block: [u8; VOTES],
@@ -21,14 +23,14 @@ pub struct Votes {
 }
 
 // A vote and its signature.
-#[derive(Drop)]
+#[derive(Clone, Copy)]
 pub struct Pair {
     pub target: u32,
     pub number: u32,
     pub signature: u64,
 }
 
-#[derive(Drop)]
+#[derive(Clone, Copy)]
 pub enum VoteMultiplicity {
     Silent,
     Single(Pair),
@@ -36,7 +38,7 @@ pub enum VoteMultiplicity {
 }
 
 // Document 01, "How a vote is taken", rules 2 to 5. An equivocation has the first pair beside it.
-#[derive(Drop)]
+#[derive(Clone, Copy)]
 pub enum AddVoteResult {
     Single,
     Duplicated,

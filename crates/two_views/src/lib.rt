@@ -1,5 +1,7 @@
 // Two views of one round: the weight of the voters who equivocated in precommits in either, or whose recorded precommits differ in target
 // between them.
+#![tactic(auto)]
+
 ghost use Rattle.std.specs.Prelude.{◌≡◌, ◌≤◌, ◌<◌};
 ghost use Rattle.sizes.specs.Sizes.{VOTERS, VOTES};
 ghost use Rattle.two_views.specs.Views.{apart, differing, same, same_voters, same_table, agree, views};
@@ -12,7 +14,7 @@ use voter_set::VoterSet;
 use weights::VoteWeight;
 
 // The weight, or the number of the refusal.
-#[derive(Drop)]
+#[derive(Clone, Copy)]
 pub enum Views {
     Weight(u64),
     Refused(u8),

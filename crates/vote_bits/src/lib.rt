@@ -1,5 +1,7 @@
 // Node bits and equivocator bits as the recorded votes say, tested on lent columns: one sweep up the table joins the bits of first
 // votes, since parents are earlier.
+#![tactic(auto)]
+
 ghost use Rattle.std.specs.Prelude.{◌≡◌, false, not, ◌||◌};
 ghost use Rattle.bitfield.specs.Bits.{has};
 ghost use Rattle.nodes.specs.Nodes.{Falls};

@@ -1,5 +1,7 @@
 // The vote graph by value: vote_graph.rs without `adjust_base`. Each call tests what it is handed and then runs the inner
 // one on lent columns.
+#![tactic(auto)]
+
 ghost use Rattle.std.specs.Prelude.{◌≡◌};
 ghost use Rattle.vote_insert.specs.Insert.{opened};
 ghost use Rattle.vote_graph.specs.Shape.{graph_of, is_graph, Standing};
@@ -19,7 +21,7 @@ use named::Target;
 // One place a block of the table. Which have a vote-node, the node above each, and its bits; all nodes but the base in the
 // order in which they were listed; the nodes that list none, by rising id. The fields are public, so that the columns can
 // be lent: a graph of anyone's making can be handed in, and `is_graph` tells it from one that was built by calls.
-#[derive(Drop)]
+#[derive(Clone, Copy)]
 pub struct VoteGraph {
     pub base: u8,
     pub used: [bool; BLOCKS],
@@ -32,21 +34,21 @@ pub struct VoteGraph {
 }
 
 // What inserting a vote gives: the place of its block, or the number of the refusal.
-#[derive(Drop)]
+#[derive(Clone, Copy)]
 pub enum Answer {
     Placed(u8),
     Refused(u8),
 }
 
 // The answer and the graph beside it: an enum holds no array.
-#[derive(Drop)]
+#[derive(Clone, Copy)]
 pub struct Inserted {
     pub answer: Answer,
     pub graph: VoteGraph,
 }
 
 // Whether a block is in the graph: it has a node, or is above one and at or below the base.
-#[derive(Drop)]
+#[derive(Clone, Copy)]
 pub enum Votes {
     Inside,
     Outside,
@@ -54,14 +56,14 @@ pub enum Votes {
 }
 
 // Who voted at or below a block; no one, where it is not in the graph.
-#[derive(Drop)]
+#[derive(Clone, Copy)]
 pub struct Cumulative {
     pub answer: Votes,
     pub bits: [u64; WORDS],
 }
 
 // A block that was looked for.
-#[derive(Drop)]
+#[derive(Clone, Copy)]
 pub enum Sought {
     At(u8),
     Nothing,

@@ -9,7 +9,7 @@ use nodes::Found;
 use sizes::BLOCKS;
 
 // A place at or below the base, or the number of the refusal.
-#[derive(Drop)]
+#[derive(Clone, Copy)]
 pub enum Target {
     At(u8),
     Refused(u8),

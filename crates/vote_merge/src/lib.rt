@@ -1,4 +1,6 @@
 // `find_merge_point` of vote_graph.rs, on lent columns, and the first node that answers a question with yes.
+#![tactic(auto)]
+
 ghost use Rattle.std.specs.Prelude.{◌≡◌, [], ◌≤◌};
 ghost use Rattle.sizes.specs.Sizes.{BLOCKS};
 ghost use Rattle.loops.specs.Listing.{front};

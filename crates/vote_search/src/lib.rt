@@ -1,4 +1,6 @@
 // `cumulative_vote`, `find_ancestor` and `find_ghost` of vote_graph.rs, on lent columns.
+#![tactic(auto)]
+
 ghost use Rattle.std.specs.Prelude.{◌≡◌, List, ℕ, ◌≤◌};
 ghost use Rattle.sizes.specs.Sizes.{BLOCKS};
 ghost use Rattle.graph.specs.Ghost.{find_ancestor, descend, find_ghost};
@@ -14,14 +16,14 @@ use nodes::{Found, Places, Question};
 use sizes::{BLOCKS, VOTERS, WORDS};
 
 // A block's bits, and whether it is in the graph at all.
-#[derive(Drop)]
+#[derive(Clone, Copy)]
 pub struct Tally {
     pub inside: bool,
     pub bits: [u64; WORDS],
 }
 
 // The first block of threshold weight and the first that can still get it.
-#[derive(Drop)]
+#[derive(Clone, Copy)]
 pub struct Both {
     pub weighty: Found,
     pub possible: Found,

@@ -1,5 +1,7 @@
 // The shape rules that tie recorded votes, vote-nodes, node bits, equivocator bits and history together, tested on lent columns
 // in linear time.
+#![tactic(auto)]
+
 ghost use Rattle.std.specs.Prelude.{◌≡◌, not, ◌||◌, ◌<◌, leb, ltb};
 ghost use Rattle.lent.specs.Moment.{before};
 ghost use Rattle.nodes.specs.Nodes.{Falls};

@@ -1,4 +1,6 @@
 // A voter's place and weight, looked up in lent columns: `VoterInfo` and `get` of voter_set.rs.
+#![tactic(auto)]
+
 ghost use Rattle.std.specs.Prelude.{◌≡◌};
 ghost use Rattle.voter_info.specs.Info.{info, look_up};
 
@@ -6,13 +8,13 @@ use columns::Found;
 use weights::{NewVoterWeight, VoterWeight};
 
 // A voter's place in the set, and its weight.
-#[derive(Drop)]
+#[derive(Clone, Copy)]
 pub struct VoterInfo {
     pub position: usize,
     pub weight: VoterWeight,
 }
 
-#[derive(Drop)]
+#[derive(Clone, Copy)]
 pub enum Lookup {
     Voter(VoterInfo),
     Outside,

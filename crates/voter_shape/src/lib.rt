@@ -1,4 +1,6 @@
 // The shape test of a voter set, on lent columns.
+#![tactic(auto)]
+
 ghost use Rattle.std.specs.Prelude.{◌≡◌, ◌≤◌, length};
 ghost use Rattle.sizes.specs.Sizes.{VOTERS};
 ghost use Rattle.columns.specs.Blank.{blank};

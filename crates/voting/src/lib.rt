@@ -1,5 +1,7 @@
 // The journal's third turn: votes, and blocks between them, on lent columns. A round that keeps the shape keeps it at each record, so nothing
 // is tested again.
+#![tactic(auto)]
+
 ghost use Rattle.std.specs.Prelude.{◌≡◌, ◌≤◌, length, drop};
 ghost use Rattle.lent.specs.Moment.{given, before, after};
 ghost use Rattle.importing.specs.Lent.{frame_at, held_at};
@@ -17,7 +19,7 @@ use sizes::{BLOCKS, HISTORY, VOTERS, VOTES, WORDS};
 use tracker::Pair;
 
 // What a mark is in this turn.
-#[derive(Drop)]
+#[derive(Clone, Copy)]
 pub enum Kind {
     Block,
     Vote(Phase),
@@ -25,7 +27,7 @@ pub enum Kind {
 }
 
 // What a record leaves beside the columns, and whether the turn goes on.
-#[derive(Drop)]
+#[derive(Clone, Copy)]
 struct Took {
     turn: Turn,
     blocks: usize,
@@ -33,7 +35,7 @@ struct Took {
 }
 
 // What a run over some bytes leaves, the records taken, the bytes that they have, and why no more are taken.
-#[derive(Drop)]
+#[derive(Clone, Copy)]
 pub struct Ran {
     pub blocks: usize,
     pub standing: Standing,

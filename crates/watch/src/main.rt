@@ -1,12 +1,14 @@
 // Prints the answers after every vote record of a journal, and document 01's lines at its end. Bytes go in one by one, so that the end
 // of each record is seen. Of an input that is not read to its end it prints no last lines, so that what it printed is seen to be cut off.
+#![tactic(auto)]
+
 ghost use Rattle.std.specs.Prelude.{◌≡◌};
 
 use feeding::Replay;
 use listing::Written;
 use streams::Moved;
 
-#[derive(Drop)]
+#[derive(Clone, Copy)]
 struct Piece {
     replay: Replay,
     moved: Moved,

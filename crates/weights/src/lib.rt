@@ -1,24 +1,26 @@
 // Weights of votes and of voters: weights.rs of finality-grandpa.
+#![tactic(auto)]
+
 ghost use Rattle.std.specs.Prelude.{◌≡◌, eqb};
 ghost use Rattle.weights.specs.Weights.{plus, minus, compared, kept};
 
 // The accumulated weight of any number of voters, possibly none.
-#[derive(Drop)]
+#[derive(Clone, Copy)]
 pub struct VoteWeight(pub u64);
 
 // The weight of one or more voters. Its number is private, so that only `VoterWeight::new`, which makes
 // none of weight zero, makes one outside this crate.
-#[derive(Drop)]
+#[derive(Clone, Copy)]
 pub struct VoterWeight(u64);
 
 // What `VoterWeight::new` makes of a number.
-#[derive(Drop)]
+#[derive(Clone, Copy)]
 pub enum NewVoterWeight {
     Zero,
     Weight(VoterWeight),
 }
 
-#[derive(Drop)]
+#[derive(Clone, Copy)]
 pub enum Ordering {
     Less,
     Equal,
