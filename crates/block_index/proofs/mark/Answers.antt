@@ -1,0 +1,9 @@
+use native.Mathlib.Omega.{arith}
+use Rattle.block_index.proofs.Slots.{slot_small}
+use Rattle.block_index.proofs.mark.Goals as goal
+
+pub bounds-slots-slot : goal.bounds-slots-slot
+bounds-slots-slot c = omega (arith, c.slot.ensures, slot_small c.args.id)
+
+pub returns-in-Placed : goal.returns-in-Placed
+returns-in-Placed c = rw (c.answer-1.given.1, c.slot.ensures)

@@ -1,0 +1,41 @@
+use mathlib.Core.Path.{◌≡◌, refl}
+use native.Mathlib.Omega.{arith}
+use lib.Bits.{and_le_l}
+use Rattle.bitfield.proofs.Walks.{Low, low}
+use Rattle.context.proofs.Sums.{word_turn, word_end}
+use borrow.Author.Rules.{rules}
+use Rattle.context.proofs.weighing.weigh_word.Goals as goal
+
+here : (c : tie.In-loop invariant_loop decreases_loop) → Low c.before.loop.left
+here c = low c.before.loop.left (omega arith) c.before.loop.invariant.0
+
+pub loop-left-init : goal.loop-left-init
+loop-left-init c = (search rules, search rules, refl)
+
+pub overflow_sub-zeros : goal.overflow_sub-zeros
+overflow_sub-zeros c = and_le_l _ _
+
+pub overflow_cast-zeros : goal.overflow_cast-zeros
+overflow_cast-zeros c = omega (arith, (here c).under)
+
+pub overflow_add-place : goal.overflow_add-place
+overflow_add-place c = omega (arith, (here c).under)
+
+pub offset_bounds-weights-place : goal.offset_bounds-weights-place
+offset_bounds-weights-place c = omega (arith, (here c).under)
+
+pub bounds-weights-place : goal.bounds-weights-place
+bounds-weights-place c = omega (arith, (here c).under)
+
+pub loop-left-smaller : goal.loop-left-smaller
+loop-left-smaller c = (here c.before.before).less
+
+pub loop-left-preserved : goal.loop-left-preserved
+loop-left-preserved c =
+    let l = here c.before.before in
+    (omega (arith, l.less), omega (arith, c.add-more.ensures), rw c.add-more.ensures (word_turn _ _ _ _ (omega arith) c.loop-left.invariant.0 c.loop-left.invariant.2))
+
+pub returns : goal.returns
+returns c =
+    let z : c.loop-left.left ≡ 0 = search rules in
+    word_end _ _ _ c.loop-left.invariant.1 (rw z at c.loop-left.invariant.2)

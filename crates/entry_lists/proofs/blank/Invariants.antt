@@ -1,0 +1,12 @@
+use mathlib.Core.Bool.{true}
+use mathlib.Core.Path.{◌≡◌}
+use Prim.Native.Nat.{◌≤◌, ◌-◌}
+use Rattle.sizes.specs.Sizes.{HISTORY}
+use Rattle.columns.specs.Blank.{blank}
+use Rattle.entry_lists.proofs.blank.Given as goal
+
+abbrev pub invariant-loop-k : goal.invariant-loop-k
+invariant-loop-k l = (l.n ≤ l.k) × (l.k ≤ HISTORY) × (true ≡ blank l.entries l.n l.k)
+
+abbrev pub decreases-loop-k : goal.decreases-loop-k
+decreases-loop-k l = HISTORY - l.k

@@ -1,0 +1,6 @@
+use Rattle.feeding.specs.Feeding.{kept_rest}
+use Rattle.feeding.proofs.Replay.new.Goals as goal
+
+pub returns : goal.returns
+unfolding kept_rest
+returns c = rw (c.with_pairs-journal.ensures, c.no_pairs-pairs.ensures)

@@ -1,0 +1,7 @@
+use mathlib.Core.Path.{sym}
+use native.Mathlib.Omega.{arith}
+use lib.Seq.{length-take-le}
+use Rattle.feeding.proofs.read.Goals as goal
+
+pub slice_bounds-read-end : goal.slice_bounds-read-end
+slice_bounds-read-end c = sym (length-take-le _ _ (omega (arith, c.requires, c.well_formed.0)))

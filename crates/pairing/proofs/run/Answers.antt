@@ -1,0 +1,56 @@
+use mathlib.Core.Path.{sym, ap, ◌∙◌}
+use native.Mathlib.Nat.{le_refl}
+use Prim.Native.Nat.{◌-◌}
+use lib.ListN.{length}
+use Rattle.marks.proofs.Readings.{whole_means}
+use Rattle.runs.proofs.Turns.{whole_fields}
+use Rattle.runs.proofs.Loops.{going_start, tried_goes, going_on, going_over, going_ends, going_fits}
+use Rattle.pairing.specs.Pairing.{paired}
+use Rattle.pairing.proofs.run.Goals as goal
+
+pub loop-mark-init : goal.loop-mark-init
+loop-mark-init c = (going_start _ _ _, c.requires)
+
+pub slice_bounds-part-count : goal.slice_bounds-part-count
+slice_bounds-part-count c = c.loop-mark.invariant.0.within
+
+-- TODO no goal stands for slice-bounds-part-start : c.loop.invariant.0.within
+
+-- TODO no goal stands for slice-bounds-part-end : le_refl _
+
+pub returns-in_default : goal.returns-in_default
+returns-in_default c = (
+  going_ends paired _ _ _ _ _ _ _ c.loop-mark.invariant.0 c.read.ensures c.in_default.keys2 c.ending.ensures,
+  (c.loop-mark.invariant.1, c.loop-mark.invariant.0.fewer, c.loop-mark.invariant.0.within),
+)
+
+pub fields-fields-requires : goal.fields-fields-requires
+fields-fields-requires c = (whole_means _ _ (sym c.read.ensures ∙ c.mark-1.given.1)).1
+
+pub take-took-requires : goal.take-took-requires
+take-took-requires c = (c.loop-mark.invariant.1, ap length c.fields-fields.ensures ∙ whole_fields _ _ (sym c.read.ensures ∙ c.mark-1.given.1))
+
+pub overflow_add-taken : goal.overflow_add-taken
+overflow_add-taken c = (going_fits paired _ _ _ _ _ _ _ c.loop-mark.invariant.0 (sym c.read.ensures ∙ c.mark-1.given.1) c.fields-fields.ensures c.well_formed.1.1.1.0.0).count
+
+pub overflow_add-at : goal.overflow_add-at
+overflow_add-at c = (going_fits paired _ _ _ _ _ _ _ c.loop-mark.invariant.0 (sym c.read.ensures ∙ c.mark-1.given.1) c.fields-fields.ensures c.well_formed.1.1.1.0.0).mark
+
+pub overflow_add-at-in-Goes : goal.overflow_add-at-in-Goes
+overflow_add-at-in-Goes c = (going_fits paired _ _ _ _ _ _ _ c.loop-mark.invariant.0 (sym c.read.ensures ∙ c.mark-1.given.1) c.fields-fields.ensures c.well_formed.1.1.1.0.0).place
+
+pub loop-mark-smaller : goal.loop-mark-smaller
+loop-mark-smaller c = (going_fits paired _ _ _ _ _ _ _ c.loop-mark.invariant.0 (sym c.read.ensures ∙ c.mark-1.given.1) c.fields-fields.ensures c.well_formed.1.1.1.0.0).less
+
+pub loop-mark-preserved : goal.loop-mark-preserved
+loop-mark-preserved c = (
+  going_on paired _ _ _ _ _ _ _ _ c.loop-mark.invariant.0 (sym c.read.ensures ∙ c.mark-1.given.1) c.fields-fields.ensures
+      (tried_goes paired _ _ _ _ _ c.take-took.ensures.0 c.enum_told-1.given.1),
+  c.take-took.ensures.1,
+)
+
+pub returns-in-Over : goal.returns-in-Over
+returns-in-Over c = (
+  going_over paired _ _ _ _ _ _ _ _ _ _ c.loop-mark.invariant.0 (sym c.read.ensures ∙ c.mark-1.given.1) c.fields-fields.ensures c.take-took.ensures.0 c.turn-1.given.1,
+  (c.take-took.ensures.1, c.loop-mark.invariant.0.fewer, c.loop-mark.invariant.0.within),
+)

@@ -1,0 +1,14 @@
+use Prim.Native.Nat.{◌-◌, ◌≤◌}
+use lib.ListN.{length}
+use Rattle.sizes.specs.Sizes.{PAIRS}
+use Rattle.runs.proofs.Loops.{Going}
+use Rattle.pairing.specs.Pairing.{paired}
+use Rattle.pairing.proofs.run.Given as goal
+
+abbrev pub invariant-loop-mark : goal.invariant-loop-mark
+invariant-loop-mark l =
+    Going paired (record { l.count = l.initial.ids; l.bytes = l.initial.weights; l.ids = l.ids }) l.weights (record { l.count = l.count; l.bytes = l.bytes; l.ids = l.pairs }) l.taken l.at
+    × (l.pairs ≤ PAIRS)
+
+abbrev pub decreases-loop-mark : goal.decreases-loop-mark
+decreases-loop-mark l = length l.weights - l.at

@@ -1,0 +1,41 @@
+use mathlib.Core.Path.{ap, ◌∙◌}
+use native.Mathlib.Omega.{arith}
+use borrow.Author.Tests.{le-leb, lt-leb}
+use Rattle.marks.specs.Marks.{size}
+use Rattle.runs.specs.Tried.{tried}
+use Rattle.pairing.specs.Pairing.{paired}
+use Rattle.pairing.proofs.take.Goals as goal
+
+pub returns-then-pairs-ge-PAIRS : goal.returns-then-pairs-ge-PAIRS
+unfolding tried paired
+returns-then-pairs-ge-PAIRS c = (rw (c.over.ensures, c.enum_told-1.given.1, le-leb _ _ c.if-pairs-ge-PAIRS.true), rw c.over.ensures c.requires.0)
+
+pub word-requires : goal.word-requires
+word-requires c = omega (arith, c.requires.1 ∙ ap size c.enum_told-1.given.1)
+
+pub long-requires : goal.long-requires
+long-requires c = omega (arith, c.requires.1 ∙ ap size c.enum_told-1.given.1)
+
+pub returns-else-pairs-ge-PAIRS : goal.returns-else-pairs-ge-PAIRS
+unfolding tried paired
+returns-else-pairs-ge-PAIRS c = (rw (c.enum_told-1.given.1, c.word.ensures.0, c.long.ensures, lt-leb _ _ c.if-pairs-ge-PAIRS.false), omega arith)
+
+pub returns-in-Rt : goal.returns-in-Rt
+unfolding tried paired
+returns-in-Rt c = (rw (c.over-in-Rt.ensures, c.enum_told-in-Rt-1.given.1), rw c.over-in-Rt.ensures c.requires.0)
+
+pub returns-in-Bk : goal.returns-in-Bk
+unfolding tried paired
+returns-in-Bk c = (rw (c.over-in-Bk.ensures, c.enum_told-in-Bk-1.given.1), rw c.over-in-Bk.ensures c.requires.0)
+
+pub returns-in-Op : goal.returns-in-Op
+unfolding tried paired
+returns-in-Op c = (rw (c.over-in-Op.ensures, c.enum_told-in-Op-1.given.1), rw c.over-in-Op.ensures c.requires.0)
+
+pub returns-in-Pv : goal.returns-in-Pv
+unfolding tried paired
+returns-in-Pv c = (rw (c.over-in-Pv.ensures, c.enum_told-in-Pv-1.given.1), rw c.over-in-Pv.ensures c.requires.0)
+
+pub returns-in-Pc : goal.returns-in-Pc
+unfolding tried paired
+returns-in-Pc c = (rw (c.over-in-Pc.ensures, c.enum_told-in-Pc-1.given.1), rw c.over-in-Pc.ensures c.requires.0)

@@ -1,0 +1,8 @@
+use Prim.Native.Nat.{◌-◌, ◌≤◌}
+use Rattle.pieces.proofs.by_pieces.Given as goal
+
+abbrev pub invariant-loop : goal.invariant-loop
+invariant-loop l = l.end ≤ l.replay
+
+abbrev pub decreases-loop : goal.decreases-loop
+decreases-loop l = l.replay - l.end

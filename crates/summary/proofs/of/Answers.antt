@@ -1,0 +1,18 @@
+use Rattle.summary.specs.Summary.{summed}
+use Rattle.summary.proofs.of.Goals as goal
+
+pub returns-in-Refused : goal.returns-in-Refused
+unfolding summed
+returns-in-Refused c = rw (c.bare.ensures, c.stop-1.given.1)
+
+pub returns-in-Votes : goal.returns-in-Votes
+unfolding summed
+returns-in-Votes c = rw (c.of_round.ensures, c.enum_told-1.given.1, c.enum_told-in-Votes-1.given.1)
+
+pub returns-in-Blocks : goal.returns-in-Blocks
+unfolding summed
+returns-in-Blocks c = rw (c.bare-in-Blocks.ensures, c.enum_told-1.given.1, c.enum_told-in-Blocks-1.given.1)
+
+pub returns-in-Voters : goal.returns-in-Voters
+unfolding summed
+returns-in-Voters c = rw (c.bare-in-Voters.ensures, c.enum_told-1.given.1, c.enum_told-in-Voters-1.given.1)
