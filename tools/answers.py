@@ -47,6 +47,7 @@ class Function:
         self.said = said
         places = said["places"]
         self.parent = {p[0]: p[1] for p in places}
+        self.arms = {p[0]: a for p, a in zip(places, said["arms"] or [None] * len(places)) if a}
         self.step = {p[0]: tuple(p[2]) for p in places}
         self.needs = [tuple(n) for n in said["needs"]]
         self.at = [a[0] for a in said["asked_at"]]
@@ -85,18 +86,27 @@ class Function:
                         found[m.a + i] = m.b + i
         return found
 
-    def resolve(self, need, path):
-        """c.before.before.STEP as c.STEP of today; None where it is not found."""
-        name = path
+    def resolve(self, need, name, rest=""):
+        """c.before.before.STEP.REST as c.STEP.REST of today: the step, and how many words of REST it takes; None where it is not found."""
         name = name.replace("well-formed", "well_formed")
         if name in ("args", "requires", "ranges", "well_formed"):
-            return name
+            return name, 0
+        words = [w for w in rest.split(".") if w]
         place = self.at[need] if need is not None and need < len(self.at) else None
         seen = 0
         while place is not None and seen < 1000:
+            arm = self.arms.get(place)
+            if arm:
+                best = None
+                for new, old, path in arm[2]:
+                    fits = flat(old) == flat(name) and words[: len(path)] == path
+                    if fits and (path or not words) and (best is None or len(path) > best[1]):
+                        best = (f"{arm[0]}.{new}", len(path))
+                if best:
+                    return best
             old, new = self.step.get(place, ("", ""))
             if flat(old) == flat(name) and old:
-                return new
+                return new, 0
             place = self.parent.get(place)
             seen += 1
         return None
@@ -105,16 +115,21 @@ class Function:
 def turned(body, f, need, lost):
     def one(m):
         name, rest = m.group(2), m.group(3) or ""
-        to = f.resolve(need, name)
+        to = f.resolve(need, name, rest)
         if to is None:
             lost.append("c" + m.group(1) + "." + name)
             return m.group(0)
+        to, taken = to
+        words = rest.split(".")[1:]
+        rest = "".join("." + w for w in words[taken:])
         if to in ("args", "ranges"):
             field = re.match(r"\.([^\s.(){}\[\],;]+)", rest)
             if field and field.group(1) in f.args:
                 rest = "." + f.args[field.group(1)] + rest[field.end():]
         return "c." + to + rest
 
+    # of `!x` a branch now says what it says of x
+    body = re.sub(r"\bnot-(?:true|false) (?:_|[^\s()]+|\([^()]*\)) (c(?:\.[^\s(){}\[\],;.]+)+\.(?:true|false))(?![\w.'-])", r"\1", body)
     return re.sub(r"(?<![\w'.-])c((?:\.before)*)\.([A-Za-z_][^\s.(){}\[\],;]*)((?:\.[^\s.(){}\[\],;]+)*)", one, body)
 
 
@@ -195,7 +210,10 @@ def main():
                             shown[w] = "l." + n
                 def put(mm):
                     return shown.get(mm.group(0), mm.group(0))
-                body = re.sub(r"(?<![\w'.·-])[^\s(){}\[\],;.:]+", put, body)
+                body = re.sub(r"(?<![\w'.·-])(?<!λ )[^\s(){}\[\],;.:]+(?! = )(?![^\s(){}\[\],;.:])", put, body)
+                for w in shown:
+                    if re.search(r"λ [^.]*(?<![\w'-])" + re.escape(w) + r"(?![\w'-])[^.]*\.", body):
+                        notes.append(f"{sort}-{new}: a binder is called {w}")
                 out = [f"abbrev pub {sort}-{new} : goal.{sort}-{new}", f"{sort}-{new} l ={body}"]
                 invariants.append(comment + out)
                 continue

@@ -2,7 +2,7 @@ use Rattle.answers.proofs.Steps.{ghost_anew, ghost_kept}
 use Rattle.answers.proofs.with_ghost.Goals as goal
 
 pub returns-in-Prevote : goal.returns-in-Prevote
-returns-in-Prevote c = ghost_anew _ _ _ _ c.enum_told-1.given.1 _ c.phase_ghost-found.ensures
+returns-in-Prevote c = ghost_anew _ _ _ _ c.in-Prevote.is _ c.phase_ghost-found.ensures
 
 pub returns-in-Precommit : goal.returns-in-Precommit
-returns-in-Precommit c = ghost_kept _ _ _ _ c.enum_told-in-Precommit-1.given.1
+returns-in-Precommit c = ghost_kept _ _ _ _ c.in-Precommit.is

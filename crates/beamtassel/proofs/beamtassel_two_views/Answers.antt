@@ -1,19 +1,18 @@
 use mathlib.Core.Path.{sym, ◌∙◌}
-use borrow.Author.Tests.{not-true, not-false}
 use Rattle.beamtassel.proofs.Called.{first_refused, second_refused, first_none, second_none, views_done}
 use Rattle.beamtassel.proofs.beamtassel_two_views.Goals as goal
 
 pub returns-in-Refused : goal.returns-in-Refused
-returns-in-Refused c = first_refused c.args.first.now c.args.second.now c.args.out.now _ _ c.replayed-one.ensures c.replayed-other.ensures _ c.one_stop-1.given.1 _ c.refusal.ensures
+returns-in-Refused c = first_refused c.args.first.now c.args.second.now c.args.out.now _ _ c.replayed-one.ensures c.replayed-other.ensures _ c.in-Refused.is _ c.refusal.ensures
 
 pub returns-in-Refused-other_stop : goal.returns-in-Refused-other_stop
-returns-in-Refused-other_stop c = second_refused c.args.first.now c.args.second.now c.args.out.now _ _ c.replayed-one.ensures c.replayed-other.ensures c.enum_told-1.given.1 _ c.other_stop-1.given.1 _ c.refusal-in-Refused-other_stop.ensures
+returns-in-Refused-other_stop c = second_refused c.args.first.now c.args.second.now c.args.out.now _ _ c.replayed-one.ensures c.replayed-other.ensures c.in_default.is _ c.in-Refused-other_stop.is _ c.refusal-in-Refused-other_stop.ensures
 
 pub returns-then-not-has_round : goal.returns-then-not-has_round
-returns-then-not-has_round c = first_none c.args.first.now c.args.second.now c.args.out.now _ _ c.replayed-one.ensures c.replayed-other.ensures c.enum_told-1.given.1 c.enum_told-in_default-other_stop-1.given.1 (sym c.has_round.ensures ∙ not-true _ c.if-not-has_round.true) _ c.refusal-then-not-has_round.ensures
+returns-then-not-has_round c = first_none c.args.first.now c.args.second.now c.args.out.now _ _ c.replayed-one.ensures c.replayed-other.ensures c.in_default.is c.in_default-other_stop.is (sym c.has_round.ensures ∙ c.if-not-has_round.true) _ c.refusal-then-not-has_round.ensures
 
 pub returns-then-not-has_round-2 : goal.returns-then-not-has_round-2
-returns-then-not-has_round-2 c = second_none c.args.first.now c.args.second.now c.args.out.now _ _ c.replayed-one.ensures c.replayed-other.ensures c.enum_told-1.given.1 c.enum_told-in_default-other_stop-1.given.1 (sym c.has_round.ensures ∙ not-false _ c.if-not-has_round.false) (sym c.has_round-2.ensures ∙ not-true _ c.if-not-has_round-2.true) _ c.refusal-then-not-has_round-2.ensures
+returns-then-not-has_round-2 c = second_none c.args.first.now c.args.second.now c.args.out.now _ _ c.replayed-one.ensures c.replayed-other.ensures c.in_default.is c.in_default-other_stop.is (sym c.has_round.ensures ∙ c.if-not-has_round.false) (sym c.has_round-2.ensures ∙ c.if-not-has_round-2.true) _ c.refusal-then-not-has_round-2.ensures
 
 pub returns : goal.returns
-returns c = views_done c.args.first.now c.args.second.now c.args.out.now _ _ c.replayed-one.ensures c.replayed-other.ensures c.enum_told-1.given.1 c.enum_told-in_default-other_stop-1.given.1 (sym c.has_round.ensures ∙ not-false _ c.if-not-has_round.false) (sym c.has_round-2.ensures ∙ not-false _ c.if-not-has_round-2.false) _ c.two_views.ensures _ _ c.put_weight.ensures
+returns c = views_done c.args.first.now c.args.second.now c.args.out.now _ _ c.replayed-one.ensures c.replayed-other.ensures c.in_default.is c.in_default-other_stop.is (sym c.has_round.ensures ∙ c.if-not-has_round.false) (sym c.has_round-2.ensures ∙ c.if-not-has_round-2.false) _ c.two_views.ensures _ _ c.put_weight.ensures

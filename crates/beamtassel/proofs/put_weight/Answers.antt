@@ -3,10 +3,10 @@ use lib.ListN.{length}
 use Rattle.beamtassel.proofs.put_weight.Goals as goal
 
 pub returns-then-out-lt8 : goal.returns-then-out-lt8
-returns-then-out-lt8 c = rw (c.views-in-Weight-1.given.1, lt-ltb (length c.args.out.now) 8 c.if-out-lt8.true, c.refusal-then-out-lt8.ensures)
+returns-then-out-lt8 c = rw (c.in-Weight.is, lt-ltb (length c.args.out.now) 8 c.if-out-lt8.true, c.refusal-then-out-lt8.ensures)
 
 pub returns-in-Refused : goal.returns-in-Refused
-returns-in-Refused c = rw (c.views-1.given.1, c.refusal.ensures)
+returns-in-Refused c = rw (c.in-Refused.is, c.refusal.ensures)
 
 pub returns-else-out-lt8 : goal.returns-else-out-lt8
-returns-else-out-lt8 c = rw (c.views-in-Weight-1.given.1, le-ltb (length c.args.out.now) 8 c.if-out-lt8.false, c.put.ensures)
+returns-else-out-lt8 c = rw (c.in-Weight.is, le-ltb (length c.args.out.now) 8 c.if-out-lt8.false, c.put.ensures)

@@ -5,19 +5,19 @@ use Rattle.block_index.proofs.add.Goals as goal
 
 pub returns-in_default : goal.returns-in_default
 unfolding step
-returns-in_default c = (rw (place_there _ _ _ _ (sym c.place.ensures ∙ c.enum_told-in_default-1.given.1)), (refl, c.requires))
+returns-in_default c = (rw (place_there _ _ _ _ (sym c.place.ensures ∙ c.in_default.is)), (refl, c.requires))
 
 pub returns-in_default-place : goal.returns-in_default-place
 unfolding step
 returns-in_default-place c = (
-  rw (place_not_there _ _ _ (sym c.place.ensures ∙ c.enum_told-1.given.1), sym c.place-2.ensures ∙ c.enum_told-in_default-place-1.given.1),
+  rw (place_not_there _ _ _ (sym c.place.ensures ∙ c.in-Nothing.is), sym c.place-2.ensures ∙ c.in_default-place.is),
   (refl, c.requires),
 )
 
 pub returns : goal.returns
 unfolding step
 returns c =
-    let new = sym c.place.ensures ∙ c.enum_told-1.given.1 in (
-      rw (place_not_there _ _ _ new, sym c.place-2.ensures ∙ c.above-1.given.1) c.append-answer.ensures,
+    let new = sym c.place.ensures ∙ c.in-Nothing.is in (
+      rw (place_not_there _ _ _ new, sym c.place-2.ensures ∙ c.in-At.is) c.append-answer.ensures,
       (c.mark.ensures, append_indexed _ _ _ _ new c.requires _ _ c.append-answer.ensures _ c.mark.ensures),
     )

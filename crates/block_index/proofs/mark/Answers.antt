@@ -6,4 +6,4 @@ pub bounds-slots-slot : goal.bounds-slots-slot
 bounds-slots-slot c = omega (arith, c.slot.ensures, slot_small c.args.id)
 
 pub returns-in-Placed : goal.returns-in-Placed
-returns-in-Placed c = rw (c.answer-1.given.1, c.slot.ensures)
+returns-in-Placed c = rw (c.in-Placed.is, c.slot.ensures)

@@ -1,5 +1,4 @@
 use mathlib.Core.Path.{sym, ◌∙◌}
-use borrow.Author.Tests.{not-true, not-false}
 use Rattle.block_shape.specs.Shape.{tabled}
 use Rattle.block_shape.proofs.Shapes.{sized_is, count_fits_is, none_fits, many_fits}
 use Rattle.block_shape.proofs.is_table.Goals as goal
@@ -20,16 +19,16 @@ pub returns-then-not-is_tree : goal.returns-then-not-is_tree
 unfolding tabled
 returns-then-not-is_tree c =
     let p = c.requires in
-    rw (sized_is _ _ _ p.0 p.1 p.2, count_fits_is _ c.if-count-eq0.false c.if-count-gt-BLOCKS.false, sym c.is_tree.ensures ∙ not-true _ c.if-not-is_tree.true)
+    rw (sized_is _ _ _ p.0 p.1 p.2, count_fits_is _ c.if-count-eq0.false c.if-count-gt-BLOCKS.false, sym c.is_tree.ensures ∙ c.if-not-is_tree.true)
 
 pub returns-then-not-are_clear : goal.returns-then-not-are_clear
 unfolding tabled
 returns-then-not-are_clear c =
     let p = c.requires in
-    rw (sized_is _ _ _ p.0 p.1 p.2, count_fits_is _ c.if-count-eq0.false c.if-count-gt-BLOCKS.false, sym c.is_tree.ensures ∙ not-false _ c.if-not-is_tree.false, sym c.are_clear.ensures ∙ not-true _ c.if-not-are_clear.true)
+    rw (sized_is _ _ _ p.0 p.1 p.2, count_fits_is _ c.if-count-eq0.false c.if-count-gt-BLOCKS.false, sym c.is_tree.ensures ∙ c.if-not-is_tree.false, sym c.are_clear.ensures ∙ c.if-not-are_clear.true)
 
 pub returns : goal.returns
 unfolding tabled
 returns c =
     let p = c.requires in
-    rw (sized_is _ _ _ p.0 p.1 p.2, count_fits_is _ c.if-count-eq0.false c.if-count-gt-BLOCKS.false, sym c.is_tree.ensures ∙ not-false _ c.if-not-is_tree.false, sym c.are_clear.ensures ∙ not-false _ c.if-not-are_clear.false, c.are_distinct.ensures)
+    rw (sized_is _ _ _ p.0 p.1 p.2, count_fits_is _ c.if-count-eq0.false c.if-count-gt-BLOCKS.false, sym c.is_tree.ensures ∙ c.if-not-is_tree.false, sym c.are_clear.ensures ∙ c.if-not-are_clear.false, c.are_distinct.ensures)

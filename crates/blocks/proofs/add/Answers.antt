@@ -8,8 +8,8 @@ returns-then-contains c = rw (sym c.contains.ensures ∙ c.if-contains.true)
 
 pub returns-in_default : goal.returns-in_default
 unfolding step
-returns-in_default c = rw (sym c.contains.ensures ∙ c.if-contains.false, sym c.find.ensures ∙ c.enum_told-1.given.1)
+returns-in_default c = rw (sym c.contains.ensures ∙ c.if-contains.false, sym c.find.ensures ∙ c.in_default.is)
 
 pub returns : goal.returns
 unfolding step
-returns c = rw (sym c.contains.ensures ∙ c.if-contains.false, sym c.find.ensures ∙ c.above-1.given.1) c.append.ensures
+returns c = rw (sym c.contains.ensures ∙ c.if-contains.false, sym c.find.ensures ∙ c.in-At.is) c.append.ensures

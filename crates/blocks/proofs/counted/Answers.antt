@@ -1,4 +1,4 @@
 use Rattle.blocks.proofs.counted.Goals as goal
 
 pub returns-in-Placed : goal.returns-in-Placed
-returns-in-Placed c = rw c.enum_told-1.given.1
+returns-in-Placed c = rw c.in-Placed.is

@@ -6,11 +6,11 @@ use Rattle.blocks.proofs.find.Goals as goal
 
 pub returns-in_default : goal.returns-in_default
 unfolding place_of
-returns-in_default c = rw (sym c.find.ensures ∙ c.enum_told-1.given.1)
+returns-in_default c = rw (sym c.find.ensures ∙ c.in_default.is)
 
 pub overflow_cast-result : goal.overflow_cast-result
-overflow_cast-result c = omega (arith, (find_at _ _ _ _ (sym c.find.ensures ∙ c.place-1.given.1)).inside, c.requires)
+overflow_cast-result c = omega (arith, (find_at _ _ _ _ (sym c.find.ensures ∙ c.in-At.is)).inside, c.requires)
 
 pub returns : goal.returns
 unfolding place_of
-returns c = rw (sym c.find.ensures ∙ c.place-1.given.1)
+returns c = rw (sym c.find.ensures ∙ c.in-At.is)

@@ -3,7 +3,6 @@ use mathlib.Core.Bool.{false}
 use Prim.Native.Nat.{ℕ, ◌<◌, ◌≤◌, ◌-◌}
 use native.Mathlib.Omega.{arith}
 use lib.ListN.{get_or, length-set}
-use borrow.Author.Tests.{not-true, not-false}
 use Rattle.containing.proofs.Search.{way_start, way_off, way_met, way_up, way_bare, way_hit, between_start, between_same, between_more, between_end}
 use borrow.Author.Rules.{rules}
 use Rattle.containing.proofs.find_containing_nodes.Goals as goal
@@ -101,7 +100,7 @@ next-preserved-then-not-reaches c =
           (way_bare _ _ falls _ _ _ _ _ (c.loop-node.invariant.5 falls).1 (omega (arith, e, c.wide-at.ensures.1))
           (ap (λ (x : ℕ). get_or c.loop-node.visited x false) (sym e) ∙ c.if-visited-at.false) c.if-node-block.false
           (subst (λ (x : ℕ). get_or c.args.above.now x 0 ≤ c.args.block) e c.if-block-over.false)
-          (sym c.reaches.ensures ∙ not-true _ c.if-not-reaches.true))),
+          (sym c.reaches.ensures ∙ c.if-not-reaches.true))),
     )
 
 pub bounds-places-count : goal.bounds-places-count
@@ -128,7 +127,7 @@ next-preserved c =
           (way_hit _ _ falls _ _ _ _ _ (c.loop-node.invariant.5 falls).1 (omega (arith, e, c.wide-at.ensures.1))
           (ap (λ (x : ℕ). get_or c.loop-node.visited x false) (sym e) ∙ c.if-visited-at.false) c.if-node-block.false
           (subst (λ (x : ℕ). get_or c.args.above.now x 0 ≤ c.args.block) e c.if-block-over.false)
-          (sym c.reaches.ensures ∙ not-false _ c.if-not-reaches.false))),
+          (sym c.reaches.ensures ∙ c.if-not-reaches.false))),
     )
 
 pub returns : goal.returns

@@ -3,7 +3,6 @@ use mathlib.Core.Path.{◌∙◌}
 use Prim.Native.Nat.{◌-◌}
 use native.Mathlib.Nat.{le_antisymm}
 use native.Mathlib.Omega.{arith}
-use borrow.Author.Tests.{not-true, not-false}
 use lib.ListN.{length-set, get_or-eq_default}
 use Rattle.loops.proofs.Alls.{all_none, all_more}
 use Rattle.graph_lists.proofs.Strikes.{struck_none, struck_more, fresh_is, once_false, once_end}
@@ -24,7 +23,7 @@ bounds-left-at c = omega (arith, c.if-at-ge-HISTORY.false)
 pub returns-then-not-left-at : goal.returns-then-not-left-at
 returns-then-not-left-at c =
     once_false _ _ _ _ _ c.loop-k-test.true
-    (fresh_is _ _ _ _ _ c.loop-k.invariant.1 c.wide-at.ensures ∙ not-true _ c.if-not-left-at.true)
+    (fresh_is _ _ _ _ _ c.loop-k.invariant.1 c.wide-at.ensures ∙ c.if-not-left-at.true)
 
 pub bounds-left-at-in-loop-k : goal.bounds-left-at-in-loop-k
 bounds-left-at-in-loop-k c = omega (arith, c.if-at-ge-HISTORY.false)
@@ -33,7 +32,7 @@ pub loop-k-preserved : goal.loop-k-preserved
 loop-k-preserved c = (
   omega (arith, c.loop-k-test.true),
   struck_more _ _ _ _ _ _ c.loop-k.invariant.1 c.wide-at.ensures,
-  all_more _ _ c.loop-k.invariant.2 (fresh_is _ _ _ _ _ c.loop-k.invariant.1 c.wide-at.ensures ∙ not-false _ c.if-not-left-at.false),
+  all_more _ _ c.loop-k.invariant.2 (fresh_is _ _ _ _ _ c.loop-k.invariant.1 c.wide-at.ensures ∙ c.if-not-left-at.false),
   simp length-set c.loop-k.invariant.3,
 )
 

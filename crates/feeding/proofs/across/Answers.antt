@@ -27,17 +27,17 @@ pub after-requires : goal.after-requires
 after-requires c = (c.run-first.ensures.1.0, run_short _ _ c.run-first.result c.run-first.ensures.0)
 
 pub returns-then-taken-eq0 : goal.returns-then-taken-eq0
-returns-then-taken-eq0 c = c.after.ensures ∙ went_short c.args.journal c.args.rest c.requires.1 _ _ _ (joint_bytes _ _ c.join-joint.ensures.0) c.run-first.result c.run-first.ensures.0 c.run-first.ensures.1.0 c.enum_told-1.given.1 c.if-taken-eq0.true
+returns-then-taken-eq0 c = c.after.ensures ∙ went_short c.args.journal c.args.rest c.requires.1 _ _ _ (joint_bytes _ _ c.join-joint.ensures.0) c.run-first.result c.run-first.ensures.0 c.run-first.ensures.1.0 c.in-Cut.is c.if-taken-eq0.true
 
 pub overflow_sub-part : goal.overflow_sub-part
 overflow_sub-part c =
     let s : 0 < c.run-first.result.count = omega (arith, c.if-taken-eq0.false) in
-    omega (arith, (across_fits c.args.journal c.args.rest c.join-joint.ensures.1 c.requires.1 0 c.args.piece.now _ (joint_bytes _ _ c.join-joint.ensures.0) c.run-first.result c.run-first.ensures.0 c.run-first.ensures.1.0 c.enum_told-1.given.1 s).0)
+    omega (arith, (across_fits c.args.journal c.args.rest c.join-joint.ensures.1 c.requires.1 0 c.args.piece.now _ (joint_bytes _ _ c.join-joint.ensures.0) c.run-first.result c.run-first.ensures.0 c.run-first.ensures.1.0 c.in-Cut.is s).0)
 
 pub slice_bounds-part-count : goal.slice_bounds-part-count
 slice_bounds-part-count c =
     let s : 0 < c.run-first.result.count = omega (arith, c.if-taken-eq0.false) in
-    omega (arith, (across_fits c.args.journal c.args.rest c.join-joint.ensures.1 c.requires.1 0 c.args.piece.now _ (joint_bytes _ _ c.join-joint.ensures.0) c.run-first.result c.run-first.ensures.0 c.run-first.ensures.1.0 c.enum_told-1.given.1 s).1)
+    omega (arith, (across_fits c.args.journal c.args.rest c.join-joint.ensures.1 c.requires.1 0 c.args.piece.now _ (joint_bytes _ _ c.join-joint.ensures.0) c.run-first.result c.run-first.ensures.0 c.run-first.ensures.1.0 c.in-Cut.is s).1)
 
 -- TODO no goal stands for slice-bounds-part-start : let s : 0 < c.before.before.before.before.run.result.count = omega (arith, c.before.if1.false) in     omega (arith, (across_fits c.before.before.before.before.before.before.before.before.before.before.args.journal c.before.before.before.before.before.before.before.before.before.before.args.rest c.before.before.before.before.before.before.before.join.ensures.1 c.before.before.before.before.before.before.before.before.before.before.requires.1 0 c.before.before.before.before.before.before.before.before.before.before.args.piece.now _ (joint_bytes _ _ c.before.before.before.before.before.before.before.join.ensures.0) c.before.before.before.before.run.result c.before.before.before.before.run.ensures.0 c.before.before.before.before.run.ensures.1.0 c.before.before.enum_told.given.1 s).1)
 
@@ -70,10 +70,10 @@ after-requires-in-Left c = (c.run-first.ensures.1.0, run_short _ _ c.run-first.r
 pub returns-else-taken-eq0 : goal.returns-else-taken-eq0
 returns-else-taken-eq0 c =
     let s : 0 < c.run-first.result.count = omega (arith, c.if-taken-eq0.false) in
-    c.after-in-Cut.ensures ∙ across_done c.args.journal c.args.rest c.join-joint.ensures.1 c.requires.1 _ c.args.piece.now _ (joint_bytes _ _ c.join-joint.ensures.0) c.run-first.result c.run-first.ensures.0 c.run-first.ensures.1.0 c.enum_told-1.given.1 s _ c.more.ensures c.run.result c.run.ensures.0
+    c.after-in-Cut.ensures ∙ across_done c.args.journal c.args.rest c.join-joint.ensures.1 c.requires.1 _ c.args.piece.now _ (joint_bytes _ _ c.join-joint.ensures.0) c.run-first.result c.run-first.ensures.0 c.run-first.ensures.1.0 c.in-Cut.is s _ c.more.ensures c.run.result c.run.ensures.0
 
 pub returns-in-Refused : goal.returns-in-Refused
-returns-in-Refused c = c.after-in-Refused.ensures ∙ went_refused c.args.journal c.args.rest c.requires.1 _ _ _ (joint_bytes _ _ c.join-joint.ensures.0) c.run-first.result c.run-first.ensures.0 c.run-first.ensures.1.0 _ c.enum_told-in-Refused-1.given.1
+returns-in-Refused c = c.after-in-Refused.ensures ∙ went_refused c.args.journal c.args.rest c.requires.1 _ _ _ (joint_bytes _ _ c.join-joint.ensures.0) c.run-first.result c.run-first.ensures.0 c.run-first.ensures.1.0 _ c.in-Refused.is
 
 pub returns-in-Left : goal.returns-in-Left
-returns-in-Left c = c.after-in-Left.ensures ∙ went_left c.args.journal c.args.rest c.requires.1 _ _ _ (joint_bytes _ _ c.join-joint.ensures.0) c.run-first.result c.run-first.ensures.0 c.run-first.ensures.1.0 c.enum_told-in-Left-1.given.1
+returns-in-Left c = c.after-in-Left.ensures ∙ went_left c.args.journal c.args.rest c.requires.1 _ _ _ (joint_bytes _ _ c.join-joint.ensures.0) c.run-first.result c.run-first.ensures.0 c.run-first.ensures.1.0 c.in-Left.is

@@ -28,32 +28,32 @@ returns-in_default c = (
 )
 
 pub fields-fields-requires : goal.fields-fields-requires
-fields-fields-requires c = (whole_means _ _ (sym c.read.ensures ∙ c.mark-1.given.1)).1
+fields-fields-requires c = (whole_means _ _ (sym c.read.ensures ∙ c.in-Whole.is)).1
 
 pub take-took-requires : goal.take-took-requires
-take-took-requires c = (c.loop-mark.invariant.1, ap length c.fields-fields.ensures ∙ whole_fields _ _ (sym c.read.ensures ∙ c.mark-1.given.1))
+take-took-requires c = (c.loop-mark.invariant.1, ap length c.fields-fields.ensures ∙ whole_fields _ _ (sym c.read.ensures ∙ c.in-Whole.is))
 
 pub overflow_add-taken : goal.overflow_add-taken
-overflow_add-taken c = (going_fits grown _ _ _ _ _ _ _ c.loop-mark.invariant.0 (sym c.read.ensures ∙ c.mark-1.given.1) c.fields-fields.ensures c.well_formed.1.1.1.1.0.0).count
+overflow_add-taken c = (going_fits grown _ _ _ _ _ _ _ c.loop-mark.invariant.0 (sym c.read.ensures ∙ c.in-Whole.is) c.fields-fields.ensures c.well_formed.1.1.1.1.0.0).count
 
 pub overflow_add-at : goal.overflow_add-at
-overflow_add-at c = (going_fits grown _ _ _ _ _ _ _ c.loop-mark.invariant.0 (sym c.read.ensures ∙ c.mark-1.given.1) c.fields-fields.ensures c.well_formed.1.1.1.1.0.0).mark
+overflow_add-at c = (going_fits grown _ _ _ _ _ _ _ c.loop-mark.invariant.0 (sym c.read.ensures ∙ c.in-Whole.is) c.fields-fields.ensures c.well_formed.1.1.1.1.0.0).mark
 
 pub overflow_add-at-in-Goes : goal.overflow_add-at-in-Goes
-overflow_add-at-in-Goes c = (going_fits grown _ _ _ _ _ _ _ c.loop-mark.invariant.0 (sym c.read.ensures ∙ c.mark-1.given.1) c.fields-fields.ensures c.well_formed.1.1.1.1.0.0).place
+overflow_add-at-in-Goes c = (going_fits grown _ _ _ _ _ _ _ c.loop-mark.invariant.0 (sym c.read.ensures ∙ c.in-Whole.is) c.fields-fields.ensures c.well_formed.1.1.1.1.0.0).place
 
 pub loop-mark-smaller : goal.loop-mark-smaller
-loop-mark-smaller c = (going_fits grown _ _ _ _ _ _ _ c.loop-mark.invariant.0 (sym c.read.ensures ∙ c.mark-1.given.1) c.fields-fields.ensures c.well_formed.1.1.1.1.0.0).less
+loop-mark-smaller c = (going_fits grown _ _ _ _ _ _ _ c.loop-mark.invariant.0 (sym c.read.ensures ∙ c.in-Whole.is) c.fields-fields.ensures c.well_formed.1.1.1.1.0.0).less
 
 pub loop-mark-preserved : goal.loop-mark-preserved
 loop-mark-preserved c = (
-  going_on grown _ _ _ _ _ _ _ _ c.loop-mark.invariant.0 (sym c.read.ensures ∙ c.mark-1.given.1) c.fields-fields.ensures
-      (tried_goes grown _ _ _ _ _ c.take-took.ensures.0 c.enum_told-1.given.1),
+  going_on grown _ _ _ _ _ _ _ _ c.loop-mark.invariant.0 (sym c.read.ensures ∙ c.in-Whole.is) c.fields-fields.ensures
+      (tried_goes grown _ _ _ _ _ c.take-took.ensures.0 c.in-Goes.is),
   c.take-took.ensures.1,
 )
 
 pub returns-in-Over : goal.returns-in-Over
 returns-in-Over c = (
-  going_over grown _ _ _ _ _ _ _ _ _ _ c.loop-mark.invariant.0 (sym c.read.ensures ∙ c.mark-1.given.1) c.fields-fields.ensures c.take-took.ensures.0 c.turn-1.given.1,
+  going_over grown _ _ _ _ _ _ _ _ _ _ c.loop-mark.invariant.0 (sym c.read.ensures ∙ c.in-Whole.is) c.fields-fields.ensures c.take-took.ensures.0 c.in-Over.is,
   (c.take-took.ensures.1.few, c.loop-mark.invariant.0.fewer, c.loop-mark.invariant.0.within),
 )

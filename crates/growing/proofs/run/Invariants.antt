@@ -7,8 +7,8 @@ use Rattle.growing.proofs.run.Given as goal
 
 abbrev pub invariant-loop-mark : goal.invariant-loop-mark
 invariant-loop-mark l =
-    Going grown (record { l.parents = l.initial.ids; l.count = l.initial.numbers; l.bytes = l.initial.parents; l.ids = l.ids }) l.numbers
-    (record { l.parents = l.parents; l.count = l.count; l.bytes = l.bytes; l.ids = l.blocks }) l.taken l.at
+    Going grown (record { ids = l.initial.ids; numbers = l.initial.numbers; parents = l.initial.parents; count = l.ids }) l.numbers
+    (record { ids = l.parents; numbers = l.count; parents = l.bytes; count = l.blocks }) l.taken l.at
     × Indexed l.parents l.slots l.blocks
 
 abbrev pub decreases-loop-mark : goal.decreases-loop-mark

@@ -17,7 +17,7 @@ word-base-requires c = omega (arith, ap length c.fields-fields.ensures ∙ whole
 
 pub returns-in_default : goal.returns-in_default
 returns-in_default c = (
-  op_refused _ _ c.requires.0 _ c.requires.1 _ c.fields-fields.ensures _ c.word-base.ensures.0 (sym c.find.ensures ∙ c.enum_told-1.given.1) _ c.with_blocks.ensures,
+  op_refused _ _ c.requires.0 _ c.requires.1 _ c.fields-fields.ensures _ c.word-base.ensures.0 (sym c.find.ensures ∙ c.in_default.is) _ c.with_blocks.ensures,
   (omega arith, omega arith),
 )
 
@@ -29,13 +29,13 @@ slice_bounds-from_votes-count c = omega (arith, (whole_means _ _ c.requires.1).1
 -- TODO no goal stands for slice-bounds-from-votes-end : omega (arith, (whole_means _ _ c.before.before.before.before.before.before.before.before.before.before.before.requires.1).1)
 
 pub from_votes-requires : goal.from_votes-requires
-from_votes-requires c = op_ready _ _ c.requires.0 _ c.requires.1 _ c.fields-fields.ensures _ c.word-base.ensures.0 _ c.long-number.ensures _ (sym c.find.ensures ∙ c.place-1.given.1) _ c.opened-opened.ensures
+from_votes-requires c = op_ready _ _ c.requires.0 _ c.requires.1 _ c.fields-fields.ensures _ c.word-base.ensures.0 _ c.long-number.ensures _ (sym c.find.ensures ∙ c.in-At.is) _ c.opened-opened.ensures
 
 pub later-requires : goal.later-requires
 later-requires c = later_fits 1 14 c.args.part.now (omega arith) (whole_means _ _ c.requires.1).1 c.from_votes.result c.from_votes.ensures.1.0 c.from_votes.ensures.1.1 (omega (arith, c.well_formed.1.1.0))
 
 pub returns : goal.returns
 returns c = (
-  op_done _ _ c.requires.0 _ c.requires.1 _ c.fields-fields.ensures _ c.word-base.ensures.0 _ c.long-number.ensures _ (sym c.find.ensures ∙ c.place-1.given.1) _ c.opened-opened.ensures _ _ c.from_votes.ensures.0 c.later.ensures,
+  op_done _ _ c.requires.0 _ c.requires.1 _ c.fields-fields.ensures _ c.word-base.ensures.0 _ c.long-number.ensures _ (sym c.find.ensures ∙ c.in-At.is) _ c.opened-opened.ensures _ _ c.from_votes.ensures.0 c.later.ensures,
   later_within 1 14 c.args.part.now (omega arith) (whole_means _ _ c.requires.1).1 c.from_votes.result c.from_votes.ensures.1.0 c.from_votes.ensures.1.1 _ c.later.ensures,
 )

@@ -1,4 +1,4 @@
 use Rattle.listing.proofs.chosen.Goals as goal
 
 pub returns-in-Silent : goal.returns-in-Silent
-returns-in-Silent c = rw c.enum_told-1.given.1
+returns-in-Silent c = rw c.in-Silent.is

@@ -2,7 +2,6 @@ use mathlib.Core.Path.{sym, ap, ◌∙◌}
 use Prim.Native.Nat.{◌-◌}
 use native.Mathlib.Nat.{le_antisymm}
 use native.Mathlib.Omega.{arith}
-use borrow.Author.Tests.{not-true, not-false}
 use Rattle.entry_lists.specs.Entries.{entered}
 use Rattle.listing.proofs.Voters.{laid_none, laid_room, turn_silent, turn_unsuited, laid_single, laid_both}
 use borrow.Author.Rules.{rules}
@@ -24,7 +23,7 @@ pub suits-requires : goal.suits-requires
 suits-requires c = (c.requires.0, c.index-at.ensures.1)
 
 pub loop-place-preserved-then-not-suits : goal.loop-place-preserved-then-not-suits
-loop-place-preserved-then-not-suits c = (omega (arith, c.loop-place-test.true), c.loop-place.invariant.1 ∙ ap entered (sym (turn_unsuited _ _ _ _ _ _ _ c.index-at.ensures.0 (sym c.suits.ensures ∙ not-true _ c.if-not-suits.true))))
+loop-place-preserved-then-not-suits c = (omega (arith, c.loop-place-test.true), c.loop-place.invariant.1 ∙ ap entered (sym (turn_unsuited _ _ _ _ _ _ _ c.index-at.ensures.0 (sym c.suits.ensures ∙ c.if-not-suits.true))))
 
 pub entry-requires : goal.entry-requires
 entry-requires c = (c.index-at.ensures.1, omega arith)
@@ -39,7 +38,7 @@ pub overflow_add-n : goal.overflow_add-n
 overflow_add-n c = omega (arith, laid_room _ _ _ _ _ c.loop-place.invariant.1 (omega (arith, c.loop-place-test.true, c.requires.1)))
 
 pub loop-place-preserved-then-pairs-eq1 : goal.loop-place-preserved-then-pairs-eq1
-loop-place-preserved-then-pairs-eq1 c = (omega (arith, c.loop-place-test.true), laid_single _ _ _ _ _ _ _ c.index-at.ensures.0 _ _ c.loop-place.invariant.1 (omega (arith, c.loop-place-test.true, c.requires.1)) _ c.entry.ensures.0 c.if-pairs-eq1.true (sym c.suits.ensures ∙ not-false _ c.if-not-suits.false))
+loop-place-preserved-then-pairs-eq1 c = (omega (arith, c.loop-place-test.true), laid_single _ _ _ _ _ _ _ c.index-at.ensures.0 _ _ c.loop-place.invariant.1 (omega (arith, c.loop-place-test.true, c.requires.1)) _ c.entry.ensures.0 c.if-pairs-eq1.true (sym c.suits.ensures ∙ c.if-not-suits.false))
 
 pub entry-requires-in-loop-place : goal.entry-requires-in-loop-place
 entry-requires-in-loop-place c = (c.index-at.ensures.1, omega arith)
@@ -54,7 +53,7 @@ pub overflow_add-n-in-loop-place : goal.overflow_add-n-in-loop-place
 overflow_add-n-in-loop-place c = omega (arith, laid_room _ _ _ _ _ c.loop-place.invariant.1 (omega (arith, c.loop-place-test.true, c.requires.1)))
 
 pub loop-place-preserved : goal.loop-place-preserved
-loop-place-preserved c = (omega (arith, c.loop-place-test.true), laid_both _ _ _ _ _ _ _ c.index-at.ensures.0 _ _ c.loop-place.invariant.1 (omega (arith, c.loop-place-test.true, c.requires.1)) _ _ c.entry.ensures.0 c.entry-in-loop-place.ensures.0 (omega (arith, c.if-pairs-eq0.false, c.if-pairs-eq1.false)) (sym c.suits.ensures ∙ not-false _ c.if-not-suits.false))
+loop-place-preserved c = (omega (arith, c.loop-place-test.true), laid_both _ _ _ _ _ _ _ c.index-at.ensures.0 _ _ c.loop-place.invariant.1 (omega (arith, c.loop-place-test.true, c.requires.1)) _ _ c.entry.ensures.0 c.entry-in-loop-place.ensures.0 (omega (arith, c.if-pairs-eq0.false, c.if-pairs-eq1.false)) (sym c.suits.ensures ∙ c.if-not-suits.false))
 
 pub returns : goal.returns
 returns c = c.loop-place.invariant.1 ∙ rw (c.phase_in-phase.ensures, le_antisymm c.loop-place.invariant.0 c.loop-place-test.false)

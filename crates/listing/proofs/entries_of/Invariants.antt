@@ -7,7 +7,7 @@ use Rattle.listing.proofs.entries_of.Given as goal
 
 abbrev pub invariant-loop-place : goal.invariant-loop-place
 invariant-loop-place l =
-    (l.place ≤ l.size) × (record { l.entries = l.entries; count = l.n } ≡ entered (keep (wants l.counts l.first_block l.parents l.wanted) (by_voter l.phase l.place)))
+    (l.place ≤ l.size) × (record { entries = l.entries; count = l.n } ≡ entered (keep (wants l.counts l.first_block l.parents l.wanted) (by_voter l.phase l.place)))
 
 abbrev pub decreases-loop-place : goal.decreases-loop-place
 decreases-loop-place l = l.size - l.place

@@ -5,7 +5,7 @@ use Rattle.listing.proofs.write.Given as goal
 
 abbrev pub invariant-loop-k : goal.invariant-loop-k
 invariant-loop-k l =
-    (l.k ≤ l.count) × Filled (record_of (record { l.counts = l.counts; l.first_block = l.first_block; first_signature = l.first_signature; second_target = l.second_target; second_number = l.second_number; second_signature = l.second_signature }) l.voters l.ids l.numbers) l.entries l.initial.out l.k l.out l.used
+    (l.k ≤ l.count) × Filled (record_of (record { counts = l.counts; first_block = l.first_block; first_signature = l.first_signature; second_target = l.second_target; second_number = l.second_number; second_signature = l.second_signature }) l.voters l.ids l.numbers) l.entries l.initial.out l.k l.out l.used
 
 abbrev pub decreases-loop-k : goal.decreases-loop-k
 decreases-loop-k l =

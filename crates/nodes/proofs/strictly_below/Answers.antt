@@ -1,7 +1,6 @@
 use mathlib.Core.Path.{sym, ◌∙◌}
 use Prim.Native.Nat.{◌-◌}
 use native.Mathlib.Omega.{arith}
-use borrow.Author.Tests.{not-true, not-false}
 use Rattle.nodes.proofs.Lists.{laid_none, laid_room, laid_skip, laid_next, laid_end}
 use borrow.Author.Rules.{rules}
 use Rattle.nodes.proofs.strictly_below.Goals as goal
@@ -23,7 +22,7 @@ loop-k-smaller-then-not-is_under c = omega (arith, c.loop-k-test.true)
 
 pub loop-k-preserved-then-not-is_under : goal.loop-k-preserved-then-not-is_under
 loop-k-preserved-then-not-is_under c =
-    (omega (arith, c.loop-k-test.true), laid_skip _ _ _ _ _ (sym c.is_under.ensures ∙ not-true _ c.if-not-is_under.true) c.loop-k.invariant.1)
+    (omega (arith, c.loop-k-test.true), laid_skip _ _ _ _ _ (sym c.is_under.ensures ∙ c.if-not-is_under.true) c.loop-k.invariant.1)
 
 pub bounds-kept-n : goal.bounds-kept-n
 bounds-kept-n c = omega (arith, laid_room _ _ _ _ _ c.loop-k.invariant.1, c.loop-k-test.true, c.requires.1)
@@ -40,7 +39,7 @@ loop-k-smaller c = omega (arith, c.loop-k-test.true)
 pub loop-k-preserved : goal.loop-k-preserved
 loop-k-preserved c = (
   omega (arith, c.loop-k-test.true),
-  laid_next _ _ _ _ _ (omega (arith, c.loop-k-test.true, c.requires.1)) (sym c.is_under.ensures ∙ not-false _ c.if-not-is_under.false) c.loop-k.invariant.1,
+  laid_next _ _ _ _ _ (omega (arith, c.loop-k-test.true, c.requires.1)) (sym c.is_under.ensures ∙ c.if-not-is_under.false) c.loop-k.invariant.1,
 )
 
 pub returns : goal.returns

@@ -7,7 +7,7 @@ use Rattle.pairing.proofs.run.Given as goal
 
 abbrev pub invariant-loop-mark : goal.invariant-loop-mark
 invariant-loop-mark l =
-    Going paired (record { l.count = l.initial.ids; l.bytes = l.initial.weights; l.ids = l.ids }) l.weights (record { l.count = l.count; l.bytes = l.bytes; l.ids = l.pairs }) l.taken l.at
+    Going paired (record { ids = l.initial.ids; weights = l.initial.weights; count = l.ids }) l.weights (record { ids = l.count; weights = l.bytes; count = l.pairs }) l.taken l.at
     × (l.pairs ≤ PAIRS)
 
 abbrev pub decreases-loop-mark : goal.decreases-loop-mark

@@ -1,7 +1,7 @@
 use Rattle.round.proofs.marked.Goals as goal
 
 pub returns-in-Prevote : goal.returns-in-Prevote
-returns-in-Prevote c = rw c.enum_told-1.given.1
+returns-in-Prevote c = rw c.in-Prevote.is
 
 pub returns-in-Precommit : goal.returns-in-Precommit
-returns-in-Precommit c = rw c.enum_told-in-Precommit-1.given.1
+returns-in-Precommit c = rw c.in-Precommit.is

@@ -17,7 +17,7 @@ pub after-next-requires : goal.after-next-requires
 after-next-requires c = omega (arith, c.loop.invariant.1, c.read_from.auto.0)
 
 pub returns-in-Over : goal.returns-in-Over
-returns-in-Over c = rw c.next-in-Over-1.given.1 at c.after-next.ensures.1
+returns-in-Over c = rw c.in-Over.is at c.after-next.ensures.1
 
 pub loop-smaller : goal.loop-smaller
 loop-smaller c = omega arith
@@ -26,7 +26,7 @@ pub loop-preserved : goal.loop-preserved
 loop-preserved c =
     let read = c.before.before.before.before.before.before in
     let held = read.before.before.before.loop.invariant in
-    (omega arith, rw c.next-1.given.1 at c.after-next.ensures.1, read.read-from.auto.0 ∙ held.2)
+    (omega arith, rw c.in-On.is at c.after-next.ensures.1, read.read-from.auto.0 ∙ held.2)
 
 pub shape_of-space : goal.shape_of-space
 shape_of-space c = c.loop.invariant.2

@@ -21,7 +21,7 @@ pub loop-smaller : goal.loop-smaller
 loop-smaller c = omega arith
 
 pub loop-preserved : goal.loop-preserved
-loop-preserved c = (omega arith, rw c.next-1.given.1 at c.after-next.ensures.1)
+loop-preserved c = (omega arith, rw c.in-On.is at c.after-next.ensures.1)
 
 pub returns : goal.returns
 returns c = tt

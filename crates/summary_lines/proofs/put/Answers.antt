@@ -5,10 +5,10 @@ use Rattle.summary_lines.proofs.Prints.{text_when}
 use Rattle.summary_lines.proofs.put.Goals as goal
 
 pub returns-in-Voting : goal.returns-in-Voting
-returns-in-Voting c = put_as _ _ (sym (text_when c.args.summary _ c.enum_told-1.given.1)) _ _ _ c.put_round.ensures
+returns-in-Voting c = put_as _ _ (sym (text_when c.args.summary _ c.in-Voting.is)) _ _ _ c.put_round.ensures
 
 pub returns-in-Early : goal.returns-in-Early
-returns-in-Early c = put_as _ _ (sym (text_when c.args.summary _ c.enum_told-in-Early-1.given.1)) _ _ _ c.put_no_round.ensures
+returns-in-Early c = put_as _ _ (sym (text_when c.args.summary _ c.in-Early.is)) _ _ _ c.put_no_round.ensures
 
 pub returns-in-Refused : goal.returns-in-Refused
-returns-in-Refused c = put_as _ _ (ap (λ k. lines.refused c.outcome-1.given.0.0 k) c.next.ensures ∙ sym (text_when c.args.summary _ c.outcome-1.given.1)) _ _ _ c.put_refused.ensures
+returns-in-Refused c = put_as _ _ (ap (λ k. lines.refused c.in-Refused.number k) c.next.ensures ∙ sym (text_when c.args.summary _ c.in-Refused.is)) _ _ _ c.put_refused.ensures

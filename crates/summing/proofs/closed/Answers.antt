@@ -1,10 +1,10 @@
 use Rattle.summing.proofs.closed.Goals as goal
 
 pub returns-in-Cut : goal.returns-in-Cut
-returns-in-Cut c = rw (c.enum_told-1.given.1, ← c.wide-at.ensures.0) c.of_parts.ensures
+returns-in-Cut c = rw (c.in-Cut.is, ← c.wide-at.ensures.0) c.of_parts.ensures
 
 pub returns-in-Refused : goal.returns-in-Refused
-returns-in-Refused c = rw c.end-1.given.1 c.bare.ensures
+returns-in-Refused c = rw c.in-Refused.is c.bare.ensures
 
 pub returns-in-Left : goal.returns-in-Left
-returns-in-Left c = rw c.enum_told-in-Left-1.given.1 c.bare-in-Left.ensures
+returns-in-Left c = rw c.in-Left.is c.bare-in-Left.ensures

@@ -16,7 +16,7 @@ pub word-base-requires : goal.word-base-requires
 word-base-requires c = omega (arith, ap length c.fields-fields.ensures ∙ whole_fields _ _ c.requires.1)
 
 pub returns-in_default : goal.returns-in_default
-returns-in_default c = op_stop _ _ _ c.requires.0 _ c.requires.1 _ c.fields-fields.ensures _ c.word-base.ensures.0 (sym c.find.ensures ∙ c.enum_told-1.given.1) _ c.more.ensures _ c.bare.ensures
+returns-in_default c = op_stop _ _ _ c.requires.0 _ c.requires.1 _ c.fields-fields.ensures _ c.word-base.ensures.0 (sym c.find.ensures ∙ c.in_default.is) _ c.more.ensures _ c.bare.ensures
 
 pub slice_bounds-votes-count : goal.slice_bounds-votes-count
 slice_bounds-votes-count c = omega (arith, (whole_means _ _ c.requires.1).1)
@@ -26,7 +26,7 @@ slice_bounds-votes-count c = omega (arith, (whole_means _ _ c.requires.1).1)
 -- TODO no goal stands for slice-bounds-votes-end : omega (arith, (whole_means _ _ c.before.before.before.before.before.before.before.before.before.before.before.before.before.requires.1).1)
 
 pub votes-requires : goal.votes-requires
-votes-requires c = op_kept 0 _ _ c.requires.0 _ c.requires.1 _ c.fields-fields.ensures _ c.word-base.ensures.0 _ c.long-number.ensures _ (sym c.find.ensures ∙ c.place-1.given.1)
+votes-requires c = op_kept 0 _ _ c.requires.0 _ c.requires.1 _ c.fields-fields.ensures _ c.word-base.ensures.0 _ c.long-number.ensures _ (sym c.find.ensures ∙ c.in-At.is)
 
 pub returns : goal.returns
-returns c = op_on _ _ _ c.requires.0 _ c.requires.1 _ c.fields-fields.ensures _ c.word-base.ensures.0 _ c.long-number.ensures _ (sym c.find.ensures ∙ c.place-1.given.1) _ c.more-seen.ensures _ c.votes.ensures
+returns c = op_on _ _ _ c.requires.0 _ c.requires.1 _ c.fields-fields.ensures _ c.word-base.ensures.0 _ c.long-number.ensures _ (sym c.find.ensures ∙ c.in-At.is) _ c.more-seen.ensures _ c.votes.ensures

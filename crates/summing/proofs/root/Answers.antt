@@ -23,10 +23,10 @@ slice_bounds-grown-count c = omega (arith, (whole_means _ _ c.requires.1).1)
 -- TODO no goal stands for slice-bounds-grown-end : omega (arith, (whole_means _ _ c.before.before.before.before.before.before.before.before.before.before.before.requires.1).1)
 
 pub grown-requires : goal.grown-requires
-grown-requires c = rt_stands 0 (record { ids = c.args.ids.now; weights = c.args.weights.now; count = c.args.pairs }) _ c.requires.1 _ c.fields-fields.ensures _ c.make-made.ensures c.enum_told-1.given.1 _ _ c.word-first.ensures.0 c.word-height.ensures.0
+grown-requires c = rt_stands 0 (record { ids = c.args.ids.now; weights = c.args.weights.now; count = c.args.pairs }) _ c.requires.1 _ c.fields-fields.ensures _ c.make-made.ensures c.in-Made.is _ _ c.word-first.ensures.0 c.word-height.ensures.0
 
 pub returns-in-Refused : goal.returns-in-Refused
-returns-in-Refused c = rt_stop _ _ _ c.requires.1 _ c.fields-fields.ensures _ c.make-made.ensures _ c.answer-1.given.1 _ c.more.ensures _ c.bare.ensures
+returns-in-Refused c = rt_stop _ _ _ c.requires.1 _ c.fields-fields.ensures _ c.make-made.ensures _ c.in-Refused.is _ c.more.ensures _ c.bare.ensures
 
 pub returns-in-Made : goal.returns-in-Made
-returns-in-Made c = rt_on _ _ _ c.requires.1 _ c.fields-fields.ensures _ c.make-made.ensures c.enum_told-1.given.1 _ _ c.word-first.ensures.0 c.word-height.ensures.0 _ c.more-seen.ensures _ c.grown.ensures
+returns-in-Made c = rt_on _ _ _ c.requires.1 _ c.fields-fields.ensures _ c.make-made.ensures c.in-Made.is _ _ c.word-first.ensures.0 c.word-height.ensures.0 _ c.more-seen.ensures _ c.grown.ensures

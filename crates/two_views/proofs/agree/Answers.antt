@@ -1,5 +1,5 @@
 use mathlib.Core.Path.{sym, ◌∙◌}
-use borrow.Author.Tests.{eq-eqb, ne_eqb, not-true, not-false}
+use borrow.Author.Tests.{eq-eqb, ne_eqb}
 use Rattle.two_views.specs.Views.{agree}
 use Rattle.two_views.proofs.agree.Goals as goal
 
@@ -13,8 +13,8 @@ returns-then-graph-other_graph c = rw (eq-eqb _ _ c.if-one-other.false, ne_eqb _
 
 pub returns-then-not-same_voters : goal.returns-then-not-same_voters
 unfolding agree
-returns-then-not-same_voters c = rw (eq-eqb _ _ c.if-one-other.false, eq-eqb _ _ c.if-graph-other_graph.false, sym c.same_voters.ensures ∙ not-true _ c.if-not-same_voters.true)
+returns-then-not-same_voters c = rw (eq-eqb _ _ c.if-one-other.false, eq-eqb _ _ c.if-graph-other_graph.false, sym c.same_voters.ensures ∙ c.if-not-same_voters.true)
 
 pub returns : goal.returns
 unfolding agree
-returns c = rw (eq-eqb _ _ c.if-one-other.false, eq-eqb _ _ c.if-graph-other_graph.false, sym c.same_voters.ensures ∙ not-false _ c.if-not-same_voters.false) c.same_table.ensures
+returns c = rw (eq-eqb _ _ c.if-one-other.false, eq-eqb _ _ c.if-graph-other_graph.false, sym c.same_voters.ensures ∙ c.if-not-same_voters.false) c.same_table.ensures

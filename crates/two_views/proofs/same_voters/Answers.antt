@@ -1,5 +1,5 @@
 use mathlib.Core.Path.{sym, ◌∙◌}
-use borrow.Author.Tests.{eq-eqb, ne_eqb, not-true, not-false}
+use borrow.Author.Tests.{eq-eqb, ne_eqb}
 use Rattle.two_views.specs.Views.{same_voters}
 use Rattle.two_views.proofs.same_voters.Goals as goal
 
@@ -17,8 +17,8 @@ returns-then-one-other-3 c = rw (eq-eqb _ _ c.if-one-other.false, eq-eqb _ _ c.i
 
 pub returns-then-not-same_u32 : goal.returns-then-not-same_u32
 unfolding same_voters
-returns-then-not-same_u32 c = rw (eq-eqb _ _ c.if-one-other.false, eq-eqb _ _ c.if-one-other-2.false, eq-eqb _ _ c.if-one-other-3.false, sym c.same_u32.ensures ∙ not-true _ c.if-not-same_u32.true)
+returns-then-not-same_u32 c = rw (eq-eqb _ _ c.if-one-other.false, eq-eqb _ _ c.if-one-other-2.false, eq-eqb _ _ c.if-one-other-3.false, sym c.same_u32.ensures ∙ c.if-not-same_u32.true)
 
 pub returns : goal.returns
 unfolding same_voters
-returns c = rw (eq-eqb _ _ c.if-one-other.false, eq-eqb _ _ c.if-one-other-2.false, eq-eqb _ _ c.if-one-other-3.false, sym c.same_u32.ensures ∙ not-false _ c.if-not-same_u32.false) c.same_u64.ensures
+returns c = rw (eq-eqb _ _ c.if-one-other.false, eq-eqb _ _ c.if-one-other-2.false, eq-eqb _ _ c.if-one-other-3.false, sym c.same_u32.ensures ∙ c.if-not-same_u32.false) c.same_u64.ensures

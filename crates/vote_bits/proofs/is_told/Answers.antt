@@ -1,5 +1,4 @@
-use borrow.Author.Tests.{not-false}
 use Rattle.vote_bits.proofs.is_told.Goals as goal
 
 pub returns : goal.returns
-returns c = rw (not-false c.args.node c.if-not-node.false) c.same_bits.ensures
+returns c = rw (c.if-not-node.false) c.same_bits.ensures

@@ -3,7 +3,6 @@ use mathlib.Core.Path.{sym, ◌∙◌}
 use Prim.Native.Nat.{◌-◌}
 use native.Mathlib.Nat.{le_antisymm}
 use native.Mathlib.Omega.{arith}
-use borrow.Author.Tests.{not-true, not-false}
 use Rattle.loops.proofs.Alls.{all_none, all_more, all_false}
 use Rattle.vote_bits.specs.Told.{lies, told}
 use Rattle.vote_bits.proofs.Joins.{told_turn, held_none}
@@ -21,10 +20,10 @@ offset_bounds-joined-x c = omega (arith, c.loop-x-test.true)
 
 pub returns-then-not-is_told : goal.returns-then-not-is_told
 unfolding told
-returns-then-not-is_told c = sym (all_false _ _ _ c.loop-x-test.true (told_turn c.args.used.now c.args.rows.now _ (lies c.args.parents.now c.args.counts.now c.args.first_block.now) _ c.loop-x-test.true c.join_votes.ensures ∙ sym c.is_told.ensures ∙ not-true _ c.if-not-is_told.true))
+returns-then-not-is_told c = sym (all_false _ _ _ c.loop-x-test.true (told_turn c.args.used.now c.args.rows.now _ (lies c.args.parents.now c.args.counts.now c.args.first_block.now) _ c.loop-x-test.true c.join_votes.ensures ∙ sym c.is_told.ensures ∙ c.if-not-is_told.true))
 
 pub loop-x-preserved : goal.loop-x-preserved
-loop-x-preserved c = (omega (arith, c.loop-x-test.true), all_more _ _ c.loop-x.invariant.1 (told_turn c.args.used.now c.args.rows.now _ (lies c.args.parents.now c.args.counts.now c.args.first_block.now) _ c.loop-x-test.true c.join_votes.ensures ∙ sym c.is_told.ensures ∙ not-false _ c.if-not-is_told.false))
+loop-x-preserved c = (omega (arith, c.loop-x-test.true), all_more _ _ c.loop-x.invariant.1 (told_turn c.args.used.now c.args.rows.now _ (lies c.args.parents.now c.args.counts.now c.args.first_block.now) _ c.loop-x-test.true c.join_votes.ensures ∙ sym c.is_told.ensures ∙ c.if-not-is_told.false))
 
 pub returns : goal.returns
 unfolding told

@@ -3,7 +3,6 @@ use mathlib.Core.List.{[], ◌∷◌, ◌++◌}
 use Prim.Native.Nat.{ℕ, ◌-◌}
 use native.Mathlib.Omega.{arith}
 use native.Mathlib.Nat.{sub-zero}
-use borrow.Author.Tests.{not-true, not-false}
 use lib.ListN.{get_or}
 use Rattle.bitfield.specs.Bits.{joined}
 use Rattle.graph.specs.Ghost.{meets}
@@ -76,7 +75,7 @@ loop-k-preserved-then-not-met c =
       c.loop-k.invariant.1 ++ (get_or c.args.places.now c.loop-k.k 0 ∷ []),
       kept_more (col ps) (row rows) _ _ _ _ c.loop-k.invariant.2 _ _ c.wide-at.ensures.1 goes _ joins,
       c.loop-k.invariant.3 ∙ ap (meets _ _ _ _ c.loop-k.invariant.1) (rest_next _ _ _ c.loop-k-test.true)
-          ∙ meets_first (col ps) (row rows) _ _ _ _ c.loop-k.invariant.2 _ _ c.wide-at.ensures.1 goes _ joins _ _ (λ q. c.if-node-child.false (q ∙ c.wide-at.ensures.0)) (not-true _ c.if-not-met.true),
+          ∙ meets_first (col ps) (row rows) _ _ _ _ c.loop-k.invariant.2 _ _ c.wide-at.ensures.1 goes _ joins _ _ (λ q. c.if-node-child.false (q ∙ c.wide-at.ensures.0)) (c.if-not-met.true),
     )
 
 pub returns-then-passes : goal.returns-then-passes
@@ -86,7 +85,7 @@ returns-then-passes c =
     let goes = c.wide-at.ensures.0 ∙ c.towards-child.ensures in
     let joins = c.merge-bits.ensures ∙ ap (λ (j : ℕ). joined (get_or c.loop-k.joined c.wide-at.result []) (row rows j)) c.wide-from.ensures.0 in
     sym c.wide-at.ensures.0 ∙ sym (c.loop-k.invariant.3 ∙ ap (meets _ _ _ _ c.loop-k.invariant.1) (rest_next _ _ _ c.loop-k-test.true)
-    ∙ meets_here (col ps) (row rows) _ _ _ _ c.loop-k.invariant.2 _ _ c.wide-at.ensures.1 goes _ joins _ _ (λ q. c.if-node-child.false (q ∙ c.wide-at.ensures.0)) (not-false _ c.if-not-met.false) (sym c.passes.ensures ∙ c.if-passes.true))
+    ∙ meets_here (col ps) (row rows) _ _ _ _ c.loop-k.invariant.2 _ _ c.wide-at.ensures.1 goes _ joins _ _ (λ q. c.if-node-child.false (q ∙ c.wide-at.ensures.0)) (c.if-not-met.false) (sym c.passes.ensures ∙ c.if-passes.true))
 
 pub overflow_step-k-in-loop-k : goal.overflow_step-k-in-loop-k
 overflow_step-k-in-loop-k c = omega (arith, c.loop-k-test.true, c.requires.1)
@@ -104,7 +103,7 @@ loop-k-preserved c =
       c.loop-k.invariant.1 ++ (get_or c.args.places.now c.loop-k.k 0 ∷ []),
       kept_more (col ps) (row rows) _ _ _ _ c.loop-k.invariant.2 _ _ c.wide-at.ensures.1 goes _ joins,
       c.loop-k.invariant.3 ∙ ap (meets _ _ _ _ c.loop-k.invariant.1) (rest_next _ _ _ c.loop-k-test.true)
-          ∙ meets_on (col ps) (row rows) _ _ _ _ c.loop-k.invariant.2 _ _ c.wide-at.ensures.1 goes _ joins _ _ (λ q. c.if-node-child.false (q ∙ c.wide-at.ensures.0)) (not-false _ c.if-not-met.false) (sym c.passes.ensures ∙ c.if-passes.false),
+          ∙ meets_on (col ps) (row rows) _ _ _ _ c.loop-k.invariant.2 _ _ c.wide-at.ensures.1 goes _ joins _ _ (λ q. c.if-node-child.false (q ∙ c.wide-at.ensures.0)) (c.if-not-met.false) (sym c.passes.ensures ∙ c.if-passes.false),
     )
 
 pub returns : goal.returns

@@ -2,7 +2,6 @@ use mathlib.Core.Bool.{true, false}
 use mathlib.Core.Path.{sym, ◌∙◌}
 use Prim.Native.Nat.{◌-◌}
 use native.Mathlib.Nat.{le_antisymm}
-use borrow.Author.Tests.{not-true, not-false}
 use Rattle.loops.proofs.Alls.{all_none, all_more, all_false}
 use Rattle.vote_shape.specs.Voted.{only_marked}
 use borrow.Author.Rules.{rules}
@@ -13,10 +12,10 @@ loop-x-init c = (search rules, all_none _)
 
 pub returns-then-not-is_marked : goal.returns-then-not-is_marked
 unfolding only_marked
-returns-then-not-is_marked c = sym (all_false _ _ _ c.loop-x-test.true (sym c.is_marked.ensures ∙ not-true _ c.if-not-is_marked.true))
+returns-then-not-is_marked c = sym (all_false _ _ _ c.loop-x-test.true (sym c.is_marked.ensures ∙ c.if-not-is_marked.true))
 
 pub loop-x-preserved : goal.loop-x-preserved
-loop-x-preserved c = (search rules, all_more _ _ c.loop-x.invariant.1 (sym c.is_marked.ensures ∙ not-false _ c.if-not-is_marked.false))
+loop-x-preserved c = (search rules, all_more _ _ c.loop-x.invariant.1 (sym c.is_marked.ensures ∙ c.if-not-is_marked.false))
 
 pub returns : goal.returns
 unfolding only_marked

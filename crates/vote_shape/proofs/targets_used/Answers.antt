@@ -2,7 +2,6 @@ use mathlib.Core.Bool.{true, false}
 use mathlib.Core.Path.{sym, ◌∙◌}
 use Prim.Native.Nat.{◌-◌}
 use native.Mathlib.Nat.{le_antisymm}
-use borrow.Author.Tests.{not-true, not-false}
 use Rattle.loops.proofs.Alls.{all_none, all_more, all_false}
 use Rattle.vote_shape.specs.Voted.{targets_used}
 use borrow.Author.Rules.{rules}
@@ -16,10 +15,10 @@ bounds-used-wide c = c.wide.ensures.1
 
 pub returns-then-not-is_used : goal.returns-then-not-is_used
 unfolding targets_used
-returns-then-not-is_used c = sym (all_false _ _ _ c.loop-j-test.true (rw c.wide.ensures.0 at (sym c.is_used.ensures ∙ not-true _ c.if-not-is_used.true)))
+returns-then-not-is_used c = sym (all_false _ _ _ c.loop-j-test.true (rw c.wide.ensures.0 at (sym c.is_used.ensures ∙ c.if-not-is_used.true)))
 
 pub loop-j-preserved : goal.loop-j-preserved
-loop-j-preserved c = (search rules, all_more _ _ c.loop-j.invariant.1 (rw c.wide.ensures.0 at (sym c.is_used.ensures ∙ not-false _ c.if-not-is_used.false)))
+loop-j-preserved c = (search rules, all_more _ _ c.loop-j.invariant.1 (rw c.wide.ensures.0 at (sym c.is_used.ensures ∙ c.if-not-is_used.false)))
 
 pub returns : goal.returns
 unfolding targets_used

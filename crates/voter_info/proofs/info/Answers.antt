@@ -4,8 +4,8 @@ use Rattle.voter_info.proofs.info.Goals as goal
 
 pub returns-in_default : goal.returns-in_default
 unfolding info
-returns-in_default c = rw (sym c.new.ensures ∙ c.enum_told-1.given.1)
+returns-in_default c = rw (sym c.new.ensures ∙ c.in_default.is)
 
 pub returns : goal.returns
 unfolding info
-returns c = rw (sym c.new.ensures ∙ c.weight-1.given.1)
+returns c = rw (sym c.new.ensures ∙ c.in-Weight.is)

@@ -1,5 +1,5 @@
 use mathlib.Core.Path.{sym, ◌∙◌}
-use borrow.Author.Tests.{eq-eqb, ne_eqb, le-leb, lt-leb, not-true, not-false}
+use borrow.Author.Tests.{eq-eqb, ne_eqb, le-leb, lt-leb}
 use Rattle.sizes.specs.Sizes.{VOTERS}
 use Rattle.voter_shape.specs.Sound.{placed}
 use Rattle.voter_shape.proofs.placed.Goals as goal
@@ -18,16 +18,16 @@ returns-then-count-gt-VOTERS c = rw (eq-eqb _ VOTERS c.if-ids-ne-VOTERS.false, e
 
 pub returns-then-not-rising : goal.returns-then-not-rising
 unfolding placed
-returns-then-not-rising c = rw (eq-eqb _ VOTERS c.if-ids-ne-VOTERS.false, eq-eqb _ VOTERS c.if-weights-ne-VOTERS.false, le-leb _ VOTERS c.if-count-gt-VOTERS.false, sym c.rising.ensures ∙ not-true _ c.if-not-rising.true)
+returns-then-not-rising c = rw (eq-eqb _ VOTERS c.if-ids-ne-VOTERS.false, eq-eqb _ VOTERS c.if-weights-ne-VOTERS.false, le-leb _ VOTERS c.if-count-gt-VOTERS.false, sym c.rising.ensures ∙ c.if-not-rising.true)
 
 pub returns-then-not-non_zero : goal.returns-then-not-non_zero
 unfolding placed
-returns-then-not-non_zero c = rw (eq-eqb _ VOTERS c.if-ids-ne-VOTERS.false, eq-eqb _ VOTERS c.if-weights-ne-VOTERS.false, le-leb _ VOTERS c.if-count-gt-VOTERS.false, sym c.rising.ensures ∙ not-false _ c.if-not-rising.false, sym c.non_zero.ensures ∙ not-true _ c.if-not-non_zero.true)
+returns-then-not-non_zero c = rw (eq-eqb _ VOTERS c.if-ids-ne-VOTERS.false, eq-eqb _ VOTERS c.if-weights-ne-VOTERS.false, le-leb _ VOTERS c.if-count-gt-VOTERS.false, sym c.rising.ensures ∙ c.if-not-rising.false, sym c.non_zero.ensures ∙ c.if-not-non_zero.true)
 
 pub returns-then-not-blank_ids : goal.returns-then-not-blank_ids
 unfolding placed
-returns-then-not-blank_ids c = rw (eq-eqb _ VOTERS c.if-ids-ne-VOTERS.false, eq-eqb _ VOTERS c.if-weights-ne-VOTERS.false, le-leb _ VOTERS c.if-count-gt-VOTERS.false, sym c.rising.ensures ∙ not-false _ c.if-not-rising.false, sym c.non_zero.ensures ∙ not-false _ c.if-not-non_zero.false, sym c.blank_ids.ensures ∙ not-true _ c.if-not-blank_ids.true)
+returns-then-not-blank_ids c = rw (eq-eqb _ VOTERS c.if-ids-ne-VOTERS.false, eq-eqb _ VOTERS c.if-weights-ne-VOTERS.false, le-leb _ VOTERS c.if-count-gt-VOTERS.false, sym c.rising.ensures ∙ c.if-not-rising.false, sym c.non_zero.ensures ∙ c.if-not-non_zero.false, sym c.blank_ids.ensures ∙ c.if-not-blank_ids.true)
 
 pub returns : goal.returns
 unfolding placed
-returns c = rw (eq-eqb _ VOTERS c.if-ids-ne-VOTERS.false, eq-eqb _ VOTERS c.if-weights-ne-VOTERS.false, le-leb _ VOTERS c.if-count-gt-VOTERS.false, sym c.rising.ensures ∙ not-false _ c.if-not-rising.false, sym c.non_zero.ensures ∙ not-false _ c.if-not-non_zero.false, sym c.blank_ids.ensures ∙ not-false _ c.if-not-blank_ids.false, c.blank_weights.ensures)
+returns c = rw (eq-eqb _ VOTERS c.if-ids-ne-VOTERS.false, eq-eqb _ VOTERS c.if-weights-ne-VOTERS.false, le-leb _ VOTERS c.if-count-gt-VOTERS.false, sym c.rising.ensures ∙ c.if-not-rising.false, sym c.non_zero.ensures ∙ c.if-not-non_zero.false, sym c.blank_ids.ensures ∙ c.if-not-blank_ids.false, c.blank_weights.ensures)

@@ -6,4 +6,4 @@ use Rattle.watch.proofs.main.Goals as goal
 -- TODO no goal stands for slice-aggregate-tell-2 : sym (length-take-le _ _ (search rules))
 
 pub tell-requires : goal.tell-requires
-tell-requires c = rw c.enum_told-1.given.1 tt
+tell-requires c = rw c.in-Part.is tt

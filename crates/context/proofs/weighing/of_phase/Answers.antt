@@ -1,7 +1,7 @@
 use Rattle.context.proofs.weighing.of_phase.Goals as goal
 
 pub returns-in-Prevote : goal.returns-in-Prevote
-returns-in-Prevote c = rw (c.enum_told-1.given.1, c.iter1s_even.ensures)
+returns-in-Prevote c = rw (c.in-Prevote.is, c.iter1s_even.ensures)
 
 pub returns-in-Precommit : goal.returns-in-Precommit
-returns-in-Precommit c = rw (c.enum_told-in-Precommit-1.given.1, c.iter1s_odd.ensures)
+returns-in-Precommit c = rw (c.in-Precommit.is, c.iter1s_odd.ensures)

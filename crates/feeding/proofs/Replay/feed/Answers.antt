@@ -1,7 +1,6 @@
 use native.Mathlib.Omega.{arith}
 use mathlib.Core.Path.{sym, ◌∙◌}
 use Prim.Native.Nat.{◌≤◌}
-use borrow.Author.Tests.{not-true, not-false}
 use Rattle.weights.specs.Weights.{most}
 use Rattle.feeding.specs.Feeding.{fed}
 use Rattle.feeding.proofs.Goes.{feed_ready}
@@ -9,17 +8,17 @@ use Rattle.feeding.proofs.Replay.feed.Goals as goal
 
 pub returns-then-not-is_replay : goal.returns-then-not-is_replay
 unfolding fed
-returns-then-not-is_replay c = rw (sym c.is_replay.ensures ∙ not-true _ c.if-not-is_replay.true)
+returns-then-not-is_replay c = rw (sym c.is_replay.ensures ∙ c.if-not-is_replay.true)
 
 pub went-replay-requires : goal.went-replay-requires
 went-replay-requires c =
     let l : c.args.self.journal.round.context.voters.total ≤ most = omega (arith, c.well_formed.0.1.1.0.1.1.1.1.0.1.1.1.0.1.1.0.1.1.1.1.1.1.0) in
-    feed_ready c.args.self l (sym c.is_replay.ensures ∙ not-false _ c.if-not-is_replay.false)
+    feed_ready c.args.self l (sym c.is_replay.ensures ∙ c.if-not-is_replay.false)
 
 pub returns-in-Refused : goal.returns-in-Refused
 unfolding fed
-returns-in-Refused c = rw (sym c.is_replay.ensures ∙ not-false _ c.if-not-is_replay.false, c.stop-1.given.1)
+returns-in-Refused c = rw (sym c.is_replay.ensures ∙ c.if-not-is_replay.false, c.in-Refused.is)
 
 pub returns-in-Open : goal.returns-in-Open
 unfolding fed
-returns-in-Open c = rw (sym c.is_replay.ensures ∙ not-false _ c.if-not-is_replay.false, c.enum_told-1.given.1, c.went-replay.ensures)
+returns-in-Open c = rw (sym c.is_replay.ensures ∙ c.if-not-is_replay.false, c.in-Open.is, c.went-replay.ensures)

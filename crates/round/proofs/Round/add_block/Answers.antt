@@ -1,5 +1,4 @@
 use mathlib.Core.Path.{sym, ◌∙◌}
-use borrow.Author.Tests.{not-true, not-false}
 use Rattle.loops.proofs.Tests.{T_true}
 use Rattle.round.specs.Calls.{add_block}
 use Rattle.round.proofs.Steps.{few_blocks}
@@ -7,14 +6,14 @@ use Rattle.round.proofs.Round.add_block.Goals as goal
 
 pub returns-then-not-is_round : goal.returns-then-not-is_round
 unfolding add_block
-returns-then-not-is_round c = rw (sym c.is_round.ensures ∙ not-true _ c.if-not-is_round.true)
+returns-then-not-is_round c = rw (sym c.is_round.ensures ∙ c.if-not-is_round.true)
 
 pub add-answer-requires : goal.add-answer-requires
-add-answer-requires c = few_blocks _ (T_true (sym c.is_round.ensures ∙ not-false _ c.if-not-is_round.false))
+add-answer-requires c = few_blocks _ (T_true (sym c.is_round.ensures ∙ c.if-not-is_round.false))
 
 pub counted-count-requires : goal.counted-count-requires
-counted-count-requires c = few_blocks _ (T_true (sym c.is_round.ensures ∙ not-false _ c.if-not-is_round.false))
+counted-count-requires c = few_blocks _ (T_true (sym c.is_round.ensures ∙ c.if-not-is_round.false))
 
 pub returns : goal.returns
 unfolding add_block
-returns c = rw (sym c.is_round.ensures ∙ not-false _ c.if-not-is_round.false, c.counted-count.ensures, sym c.add-answer.ensures)
+returns c = rw (sym c.is_round.ensures ∙ c.if-not-is_round.false, c.counted-count.ensures, sym c.add-answer.ensures)

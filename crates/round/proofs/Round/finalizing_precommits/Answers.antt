@@ -1,5 +1,4 @@
 use mathlib.Core.Path.{sym, ◌∙◌}
-use borrow.Author.Tests.{not-true, not-false}
 use Rattle.round.specs.Ask.{finalizing_precommits}
 use Rattle.loops.proofs.Tests.{T_true}
 use Rattle.round.proofs.Lists.{finalizing_done}
@@ -7,14 +6,14 @@ use Rattle.round.proofs.Round.finalizing_precommits.Goals as goal
 
 pub returns-then-not-is_round : goal.returns-then-not-is_round
 unfolding finalizing_precommits
-returns-then-not-is_round c = rw (sym c.is_round.ensures ∙ not-true _ c.if-not-is_round.true)
+returns-then-not-is_round c = rw (sym c.is_round.ensures ∙ c.if-not-is_round.true)
 
 pub returns-in_default : goal.returns-in_default
 unfolding finalizing_precommits
-returns-in_default c = rw (sym c.is_round.ensures ∙ not-false _ c.if-not-is_round.false, c.enum_told-1.given.1)
+returns-in_default c = rw (sym c.is_round.ensures ∙ c.if-not-is_round.false, c.in_default.is)
 
 pub listed-requires : goal.listed-requires
-listed-requires c = T_true (sym c.is_round.ensures ∙ not-false _ c.if-not-is_round.false)
+listed-requires c = T_true (sym c.is_round.ensures ∙ c.if-not-is_round.false)
 
 pub returns : goal.returns
-returns c = finalizing_done c.args.self _ _ _ (sym c.is_round.ensures ∙ not-false _ c.if-not-is_round.false) c.finalized-1.given.1 c.listed.ensures
+returns c = finalizing_done c.args.self _ _ _ (sym c.is_round.ensures ∙ c.if-not-is_round.false) c.in-At.is c.listed.ensures

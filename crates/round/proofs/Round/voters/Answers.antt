@@ -1,12 +1,11 @@
 use mathlib.Core.Path.{sym, ◌∙◌}
-use borrow.Author.Tests.{not-true, not-false}
 use Rattle.round.specs.Ask.{voters}
 use Rattle.round.proofs.Round.voters.Goals as goal
 
 pub returns-then-not-is_round : goal.returns-then-not-is_round
 unfolding voters
-returns-then-not-is_round c = rw (sym c.is_round.ensures ∙ not-true _ c.if-not-is_round.true, c.nobody.ensures)
+returns-then-not-is_round c = rw (sym c.is_round.ensures ∙ c.if-not-is_round.true, c.nobody.ensures)
 
 pub returns : goal.returns
 unfolding voters
-returns c = rw (sym c.is_round.ensures ∙ not-false _ c.if-not-is_round.false)
+returns c = rw (sym c.is_round.ensures ∙ c.if-not-is_round.false)

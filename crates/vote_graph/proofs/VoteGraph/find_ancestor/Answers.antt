@@ -1,25 +1,24 @@
 use mathlib.Core.Path.{sym, ◌∙◌}
-use borrow.Author.Tests.{not-true, not-false}
 use Rattle.vote_graph.specs.Calls.{find_ancestor}
 use Rattle.vote_graph.proofs.Standings.{gate_falls, gate_few, target_stands}
 use Rattle.vote_graph.proofs.VoteGraph.find_ancestor.Goals as goal
 
 pub returns-then-not-is_graph : goal.returns-then-not-is_graph
 unfolding find_ancestor
-returns-then-not-is_graph c = rw (sym c.is_graph.ensures ∙ not-true _ c.if-not-is_graph.true)
+returns-then-not-is_graph c = rw (sym c.is_graph.ensures ∙ c.if-not-is_graph.true)
 
 pub of-requires : goal.of-requires
 of-requires c =
-    let h = sym c.is_graph.ensures ∙ not-false _ c.if-not-is_graph.false in
+    let h = sym c.is_graph.ensures ∙ c.if-not-is_graph.false in
     (gate_falls _ _ h, gate_few _ _ h)
 
 pub ancestor-found-requires : goal.ancestor-found-requires
-ancestor-found-requires c = target_stands _ _ (sym c.is_graph.ensures ∙ not-false _ c.if-not-is_graph.false) _ _ (sym c.of.ensures ∙ c.place-1.given.1)
+ancestor-found-requires c = target_stands _ _ (sym c.is_graph.ensures ∙ c.if-not-is_graph.false) _ _ (sym c.of.ensures ∙ c.in-At.is)
 
 pub returns-in-Refused : goal.returns-in-Refused
 unfolding find_ancestor
-returns-in-Refused c = rw (sym c.is_graph.ensures ∙ not-false _ c.if-not-is_graph.false, sym c.of.ensures ∙ c.number-1.given.1)
+returns-in-Refused c = rw (sym c.is_graph.ensures ∙ c.if-not-is_graph.false, sym c.of.ensures ∙ c.in-Refused.is)
 
 pub returns-in-At : goal.returns-in-At
 unfolding find_ancestor
-returns-in-At c = rw (sym c.is_graph.ensures ∙ not-false _ c.if-not-is_graph.false, sym c.of.ensures ∙ c.place-1.given.1, c.as_sought.ensures, c.ancestor-found.ensures)
+returns-in-At c = rw (sym c.is_graph.ensures ∙ c.if-not-is_graph.false, sym c.of.ensures ∙ c.in-At.is, c.as_sought.ensures, c.ancestor-found.ensures)

@@ -1,23 +1,22 @@
 use mathlib.Core.Path.{sym, ◌∙◌}
-use borrow.Author.Tests.{not-true, not-false}
 use Rattle.vote_graph.specs.Calls.{find_ghost}
 use Rattle.vote_graph.proofs.Standings.{gate_falls, start_stands}
 use Rattle.vote_graph.proofs.VoteGraph.find_ghost.Goals as goal
 
 pub returns-then-not-is_graph : goal.returns-then-not-is_graph
 unfolding find_ghost
-returns-then-not-is_graph c = rw (sym c.is_graph.ensures ∙ not-true _ c.if-not-is_graph.true)
+returns-then-not-is_graph c = rw (sym c.is_graph.ensures ∙ c.if-not-is_graph.true)
 
 pub start-requires : goal.start-requires
-start-requires c = gate_falls _ _ (sym c.is_graph.ensures ∙ not-false _ c.if-not-is_graph.false)
+start-requires c = gate_falls _ _ (sym c.is_graph.ensures ∙ c.if-not-is_graph.false)
 
 pub heaviest-found-requires : goal.heaviest-found-requires
-heaviest-found-requires c = start_stands _ _ (sym c.is_graph.ensures ∙ not-false _ c.if-not-is_graph.false) _ _ (sym c.start.ensures ∙ c.place-1.given.1)
+heaviest-found-requires c = start_stands _ _ (sym c.is_graph.ensures ∙ c.if-not-is_graph.false) _ _ (sym c.start.ensures ∙ c.in-At.is)
 
 pub returns-in-Refused : goal.returns-in-Refused
 unfolding find_ghost
-returns-in-Refused c = rw (sym c.is_graph.ensures ∙ not-false _ c.if-not-is_graph.false, sym c.start.ensures ∙ c.number-1.given.1)
+returns-in-Refused c = rw (sym c.is_graph.ensures ∙ c.if-not-is_graph.false, sym c.start.ensures ∙ c.in-Refused.is)
 
 pub returns-in-At : goal.returns-in-At
 unfolding find_ghost
-returns-in-At c = rw (sym c.is_graph.ensures ∙ not-false _ c.if-not-is_graph.false, sym c.start.ensures ∙ c.place-1.given.1, c.as_sought.ensures, c.heaviest-found.ensures)
+returns-in-At c = rw (sym c.is_graph.ensures ∙ c.if-not-is_graph.false, sym c.start.ensures ∙ c.in-At.is, c.as_sought.ensures, c.heaviest-found.ensures)

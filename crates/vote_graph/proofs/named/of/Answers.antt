@@ -4,8 +4,8 @@ use Rattle.vote_graph.proofs.named.of.Goals as goal
 
 pub returns-in_default : goal.returns-in_default
 unfolding target
-returns-in_default c = rw (sym c.find.ensures ∙ c.enum_told-1.given.1)
+returns-in_default c = rw (sym c.find.ensures ∙ c.in_default.is)
 
 pub returns : goal.returns
 unfolding target
-returns c = rw (sym c.find.ensures ∙ c.place-1.given.1, c.in_base.ensures)
+returns c = rw (sym c.find.ensures ∙ c.in-At.is, c.in_base.ensures)

@@ -16,21 +16,21 @@ returns-then-ids-gt-PAIRS c = rw (c.refused-then-ids-gt-PAIRS.ensures, eq-eqb _ 
 
 pub returns-in_default : goal.returns-in_default
 unfolding new
-returns-in_default c = rw (c.refused-in_default.ensures, eq-eqb _ _ c.if-ids-weights.false, le-ltb _ _ c.if-ids-gt-PAIRS.false, summed_over (total_of c.args.weights.now) (sym c.sum.ensures ∙ c.enum_told-1.given.1))
+returns-in_default c = rw (c.refused-in_default.ensures, eq-eqb _ _ c.if-ids-weights.false, le-ltb _ _ c.if-ids-gt-PAIRS.false, summed_over (total_of c.args.weights.now) (sym c.sum.ensures ∙ c.in_default.is))
 
 pub returns-then-total-eq0 : goal.returns-then-total-eq0
 unfolding new
 returns-then-total-eq0 c =
-    let s = summed_fits (total_of c.args.weights.now) _ (sym c.sum.ensures ∙ c.total-1.given.1) in
+    let s = summed_fits (total_of c.args.weights.now) _ (sym c.sum.ensures ∙ c.in-Fits.is) in
     rw (c.refused-then-total-eq0.ensures, eq-eqb _ _ c.if-ids-weights.false, le-ltb _ _ c.if-ids-gt-PAIRS.false, s.0, eq-eqb _ 0 (sym s.1 ∙ c.if-total-eq0.true))
 
 pub gather-requires : goal.gather-requires
 gather-requires c =
-    let s = summed_fits (total_of c.args.weights.now) _ (sym c.sum.ensures ∙ c.total-1.given.1) in
+    let s = summed_fits (total_of c.args.weights.now) _ (sym c.sum.ensures ∙ c.in-Fits.is) in
     (c.if-ids-weights.false, ltb-false _ _ s.0)
 
 pub returns : goal.returns
 unfolding new
 returns c =
-    let s = summed_fits (total_of c.args.weights.now) _ (sym c.sum.ensures ∙ c.total-1.given.1) in
+    let s = summed_fits (total_of c.args.weights.now) _ (sym c.sum.ensures ∙ c.in-Fits.is) in
     rw (c.seat.ensures, c.gather.ensures, seat_gathered _ _, s.1, eq-eqb _ _ c.if-ids-weights.false, le-ltb _ _ c.if-ids-gt-PAIRS.false, s.0, ne_eqb (total_of c.args.weights.now) 0 (λ e. c.if-total-eq0.false (s.1 ∙ e)))

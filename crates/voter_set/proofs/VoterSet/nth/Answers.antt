@@ -18,8 +18,8 @@ returns-then-n-ge-VOTERS c =
 
 pub returns-in_default : goal.returns-in_default
 unfolding nth
-returns-in_default c = rw (lt-ltb _ _ c.if-self-n.false, sym c.info.ensures ∙ c.enum_told-1.given.1)
+returns-in_default c = rw (lt-ltb _ _ c.if-self-n.false, sym c.info.ensures ∙ c.in_default.is)
 
 pub returns : goal.returns
 unfolding nth
-returns c = rw (lt-ltb _ _ c.if-self-n.false, sym c.info.ensures ∙ c.voter-1.given.1)
+returns c = rw (lt-ltb _ _ c.if-self-n.false, sym c.info.ensures ∙ c.in-Voter.is)
