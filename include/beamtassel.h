@@ -1,7 +1,7 @@
 /*
  * Beamtassel: the counting of one GRANDPA round, replayed from a journal's bytes.
  *
- * Link with libbeamtassel.a, which `rt staticlib beamtassel` writes to target/staticlib, on x86-64 Linux. It needs memcpy and memset
+ * Link with libbeamtassel.a, which `tools/proved beamtassel_c` writes to target/staticlib, on x86-64 Linux. It needs memcpy and memset
  * alone. Every function is proved to do what crates/beamtassel/specs/Calls.antt says, for any bytes whatever.
  *
  * What every call does

@@ -22,7 +22,7 @@ fn main() {
     let archive = folder.join("libbeamtassel.a");
     if !archive.is_file() {
         stop(&format!(
-            "{} is not there: run `rt staticlib beamtassel` at the repository's root, or set BEAMTASSEL_LIB to the folder that holds it",
+            "{} is not there: run `tools/proved beamtassel_c` at the repository's root, or set BEAMTASSEL_LIB to the folder that holds it",
             archive.display()
         ));
     }

@@ -36,7 +36,7 @@ pub fn command() -> Command {
 /// A program of the gate.
 pub fn program(name: &str) -> Command {
     let path = root().join("target/bin").join(name);
-    assert!(path.is_file(), "{} is not there: `rt check {name}` makes it", path.display());
+    assert!(path.is_file(), "{} is not there: `tools/proved {name}` makes it", path.display());
     let mut command = Command::new(path);
     command.stdin(Stdio::null());
     command

@@ -1,4 +1,5 @@
-// The library that consoles link: calls on journals' bytes and a lent buffer, for C and Rust. None asks anything of its caller.
+// The library that consoles link: calls on journals' bytes and a lent buffer. None asks anything of its caller. `beamtassel_c` exports each for
+// C and Rust.
 // A call returns how many bytes it wrote from the start of `out`, or 4294967296 and the number of its refusal; then `out` is as it was.
 #![tactic(auto)]
 
@@ -27,16 +28,14 @@ fn number_of(written: Written) -> u64
 }
 
 // The report in numbers: 22 of eight bytes each.
-#[unsafe(no_mangle)]
-pub extern "C" fn beamtassel_replay(journal: &[u8], out: &mut [u8]) -> u64
+pub fn beamtassel_replay(journal: &[u8], out: &mut [u8]) -> u64
     ensures { ◌≡◌ {A = Call} (record { number = result; out = out.new }) (replay_call journal.now out.old) }
 {
     number_of(figures::write(summing::replayed(journal), out))
 }
 
 // The report in lines.
-#[unsafe(no_mangle)]
-pub extern "C" fn beamtassel_print(journal: &[u8], out: &mut [u8]) -> u64
+pub fn beamtassel_print(journal: &[u8], out: &mut [u8]) -> u64
     ensures { ◌≡◌ {A = Call} (record { number = result; out = out.new }) (print_call journal.now out.old) }
 {
     number_of(summary_lines::print(summing::replayed(journal), out))
@@ -53,8 +52,7 @@ fn has_round(turn: Turn) -> bool
 }
 
 // The precommits that finalize, as Pc records.
-#[unsafe(no_mangle)]
-pub extern "C" fn beamtassel_finalizing(journal: &[u8], out: &mut [u8]) -> u64
+pub fn beamtassel_finalizing(journal: &[u8], out: &mut [u8]) -> u64
     ensures { ◌≡◌ {A = Call} (record { number = result; out = out.new }) (finalizing_call journal.now out.old) }
 {
     let replay = feeding::replayed(journal);
@@ -88,8 +86,7 @@ fn put_weight(views: Views, out: &mut [u8]) -> u64
 }
 
 // The weight of the voters who precommitted twice in either of two journals of one round, or in both for blocks that differ in id.
-#[unsafe(no_mangle)]
-pub extern "C" fn beamtassel_two_views(first: &[u8], second: &[u8], out: &mut [u8]) -> u64
+pub fn beamtassel_two_views(first: &[u8], second: &[u8], out: &mut [u8]) -> u64
     ensures { ◌≡◌ {A = Call} (record { number = result; out = out.new }) (two_views_call first.now second.now out.old) }
 {
     let one = feeding::replayed(first);
@@ -118,8 +115,7 @@ pub extern "C" fn beamtassel_two_views(first: &[u8], second: &[u8], out: &mut [u
 }
 
 // The library's version: major, minor and patch, of which the last two take three digits each.
-#[unsafe(no_mangle)]
-pub extern "C" fn beamtassel_version() -> u64
+pub fn beamtassel_version() -> u64
     ensures { result ≡ version 0 2 0 }
 {
     2000
