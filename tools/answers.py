@@ -202,12 +202,12 @@ def main():
                         continue
                     shown[w] = "l." + w
                 plain = [w for w in words if not w.endswith("₀")]
-                if len(plain) != len(names_now):
+                theirs = [n for n in names_now if n not in plain]
+                mine_only = [w for w in plain if w != "_" and w not in names_now]
+                if len(theirs) < len(mine_only):
                     notes.append(f"{mine} has {plain}, now {names_now}")
-                else:
-                    for w, n in zip(plain, names_now):
-                        if w != "_":
-                            shown[w] = "l." + n
+                for w, n in zip(mine_only, theirs):
+                    shown[w] = "l." + n
                 def put(mm):
                     return shown.get(mm.group(0), mm.group(0))
                 body = re.sub(r"(?<![\w'.·-])(?<!λ )[^\s(){}\[\],;.:]+(?! = )(?![^\s(){}\[\],;.:])", put, body)

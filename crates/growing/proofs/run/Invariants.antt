@@ -7,9 +7,9 @@ use Rattle.growing.proofs.run.Given as goal
 
 abbrev pub invariant-loop-mark : goal.invariant-loop-mark
 invariant-loop-mark l =
-    Going grown (record { ids = l.initial.ids; numbers = l.initial.numbers; parents = l.initial.parents; count = l.ids }) l.numbers
-    (record { ids = l.parents; numbers = l.count; parents = l.bytes; count = l.blocks }) l.taken l.at
-    × Indexed l.parents l.slots l.blocks
+    Going grown (record { ids = l.initial.ids; numbers = l.initial.numbers; parents = l.initial.parents; count = l.count }) l.bytes
+    (record { ids = l.ids; numbers = l.numbers; parents = l.parents; count = l.blocks }) l.taken l.at
+    × Indexed l.ids l.slots l.blocks
 
 abbrev pub decreases-loop-mark : goal.decreases-loop-mark
-decreases-loop-mark l = length l.numbers - l.at
+decreases-loop-mark l = length l.bytes - l.at

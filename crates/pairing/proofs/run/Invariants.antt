@@ -7,8 +7,8 @@ use Rattle.pairing.proofs.run.Given as goal
 
 abbrev pub invariant-loop-mark : goal.invariant-loop-mark
 invariant-loop-mark l =
-    Going paired (record { ids = l.initial.ids; weights = l.initial.weights; count = l.ids }) l.weights (record { ids = l.count; weights = l.bytes; count = l.pairs }) l.taken l.at
+    Going paired (record { ids = l.initial.ids; weights = l.initial.weights; count = l.count }) l.bytes (record { ids = l.ids; weights = l.weights; count = l.pairs }) l.taken l.at
     × (l.pairs ≤ PAIRS)
 
 abbrev pub decreases-loop-mark : goal.decreases-loop-mark
-decreases-loop-mark l = length l.weights - l.at
+decreases-loop-mark l = length l.bytes - l.at

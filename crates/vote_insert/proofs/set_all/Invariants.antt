@@ -5,7 +5,7 @@ use Rattle.vote_insert.specs.Insert.{set_all}
 use Rattle.vote_insert.proofs.set_all.Given as goal
 
 abbrev pub invariant-loop-k : goal.invariant-loop-k
-invariant-loop-k l = (l.k ≤ l.members) × (l.node ≡ set_all l.initial.above (front l.k l.above) l.count)
+invariant-loop-k l = (l.k ≤ l.count) × (l.above ≡ set_all l.initial.above (front l.k l.members) l.node)
 
 abbrev pub decreases-loop-k : goal.decreases-loop-k
-decreases-loop-k l = l.members - l.k
+decreases-loop-k l = l.count - l.k

@@ -8,13 +8,13 @@ use Rattle.voting.proofs.run.Given as goal
 abbrev pub invariant-loop-mark : goal.invariant-loop-mark
 invariant-loop-mark l =
     VotedSoFar
-    (frame_at plain l.voters l.weights l.size l.total l.threshold l.number l.initial.ids l.initial.numbers l.initial.parents l.ids l.numbers)
+    (frame_at plain l.voters l.weights l.size l.total l.threshold l.number l.initial.ids l.initial.numbers l.initial.parents l.blocks l.base)
     (held_at plain l.initial.used l.initial.above l.initial.rows l.initial.order l.initial.heads l.initial.counts l.initial.first-block l.initial.first-signature l.initial.second-target l.initial.second-number l.initial.second-signature l.initial.entries l.initial.standing)
-    l.parents
-    (frame_at plain l.voters l.weights l.size l.total l.threshold l.number l.blocks l.base l.used l.grown l.numbers)
-    (held_at plain l.above l.rows l.order l.heads l.counts l.first_block l.first_signature l.second_target l.second_number l.second_signature l.entries l.bytes l.standing)
+    l.bytes
+    (frame_at plain l.voters l.weights l.size l.total l.threshold l.number l.ids l.numbers l.parents l.grown l.base)
+    (held_at plain l.used l.above l.rows l.order l.heads l.counts l.first_block l.first_signature l.second_target l.second_number l.second_signature l.entries l.standing)
     l.taken l.at
 
 abbrev pub decreases-loop-mark : goal.decreases-loop-mark
 decreases-loop-mark l =
-    length l.parents - l.at
+    length l.bytes - l.at

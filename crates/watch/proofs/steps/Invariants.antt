@@ -4,7 +4,7 @@ use Prim.Native.Nat.{◌-◌, ◌≤◌}
 use Rattle.watch.proofs.steps.Given as goal
 
 abbrev pub invariant-loop-at : goal.invariant-loop-at
-invariant-loop-at l = (l.at-end ≤ l.replay) × (l.replay ≡ length l.bytes)
+invariant-loop-at l = (l.at ≤ l.at-end) × (l.at-end ≡ length l.bytes)
 
 abbrev pub decreases-loop-at : goal.decreases-loop-at
-decreases-loop-at l = l.replay - l.at-end
+decreases-loop-at l = l.at-end - l.at
