@@ -229,7 +229,7 @@ def main():
                     continue
                 body = rest[tail.end():]
                 between = rest[: tail.start()]
-                if re.fullmatch(r"\s*search rules\s*", body):
+                if re.fullmatch(r"\s*search rules\s*", body) and not between.strip():
                     continue
                 lost = []
                 if need is None:

@@ -5,19 +5,24 @@ use Rattle.block_index.proofs.add.Goals as goal
 
 pub returns-in_default : goal.returns-in_default
 unfolding step
-returns-in_default c = (rw (place_there _ _ _ _ (sym c.place.ensures ∙ c.in_default.is)), (refl, c.requires))
+returns-in_default c =
+    record { fact = rw (place_there _ _ _ _ (sym c.place.ensures ∙ c.in_default.is)); slots_after = refl; indexed = c.requires }
 
 pub returns-in_default-place : goal.returns-in_default-place
 unfolding step
-returns-in_default-place c = (
-  rw (place_not_there _ _ _ (sym c.place.ensures ∙ c.in-Nothing.is), sym c.place-2.ensures ∙ c.in_default-place.is),
-  (refl, c.requires),
-)
+returns-in_default-place c =
+    record {
+      fact = rw (place_not_there _ _ _ (sym c.place.ensures ∙ c.in-Nothing.is), sym c.place-2.ensures ∙ c.in_default-place.is);
+      slots_after = refl;
+      indexed = c.requires;
+    }
 
 pub returns : goal.returns
 unfolding step
 returns c =
-    let new = sym c.place.ensures ∙ c.in-Nothing.is in (
-      rw (place_not_there _ _ _ new, sym c.place-2.ensures ∙ c.in-At.is) c.append-answer.ensures,
-      (c.mark.ensures, append_indexed _ _ _ _ new c.requires _ _ c.append-answer.ensures _ c.mark.ensures),
-    )
+    let new = sym c.place.ensures ∙ c.in-Nothing.is in
+    record {
+      fact = rw (place_not_there _ _ _ new, sym c.place-2.ensures ∙ c.in-At.is) c.append-answer.ensures;
+      slots_after = c.mark.ensures;
+      indexed = append_indexed _ _ _ _ new c.requires _ _ c.append-answer.ensures _ c.mark.ensures;
+    }

@@ -30,7 +30,8 @@ returns c =
     let a = c.args in
     let l = c.loop-left in
     let z : l.left ≡ 0 = omega (arith, c.loop-left-test.false) in
-    let e : l.slots ≡ indexed a.ids.now a.count a.slots.now = sym (index_none a.ids.now a.count l.slots l.left z) ∙ l.invariant.1 in (
-      e,
-      subst (λ s. Indexed a.ids.now s a.count) (sym e) (index_indexed a.ids.now a.count a.slots.now c.requires.0 c.requires.1 c.requires.2),
-    )
+    let e : l.slots ≡ indexed a.ids.now a.count a.slots.now = sym (index_none a.ids.now a.count l.slots l.left z) ∙ l.invariant.1 in
+    record {
+      slots_after = e;
+      indexed = subst (λ s. Indexed a.ids.now s a.count) (sym e) (index_indexed a.ids.now a.count a.slots.now c.requires.0 c.requires.1 c.requires.2);
+    }

@@ -15,4 +15,4 @@ copy-requires c = omega (arith, length-take c.args.count c.args.held, c.requires
 pub returns : goal.returns
 returns c =
     let l : length c.args.held ≡ 22 = search rules in
-    (lay_done (take c.args.count c.args.held) c.args.part.now _ _ c.args.count (length-take-le _ _ (omega (arith, c.requires.0))) (omega (arith, c.requires.0, c.requires.1)) c.copy.ensures.1 c.copy-2.ensures.1, l)
+    (lay_done (take c.args.count c.args.held) c.args.part.now _ _ c.args.count (length-take-le _ _ (omega (arith, c.requires.0))) (omega (arith, c.requires.0, c.requires.1)) c.copy.ensures c.copy-2.ensures, l)

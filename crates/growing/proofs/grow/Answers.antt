@@ -8,7 +8,8 @@ pub counted-requires : goal.counted-requires
 counted-requires c = c.requires.0.few
 
 pub returns : goal.returns
-returns c = (
-  (add_done _ c.requires.0.few _ _ _ c.word-id.ensures.0 c.word-parent.ensures.0 _ _ c.add-answer.ensures.0 _ c.turn.ensures _ c.counted.ensures).0,
-  rw c.counted.ensures c.add-answer.ensures.1.1,
-)
+returns c =
+    record {
+      fact = (add_done _ c.requires.0.few _ _ _ c.word-id.ensures.0 c.word-parent.ensures.0 _ _ c.add-answer.ensures.fact _ c.turn.ensures _ c.counted.ensures).0;
+      indexed = rw c.counted.ensures c.add-answer.ensures.indexed;
+    }

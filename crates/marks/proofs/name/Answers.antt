@@ -1,4 +1,5 @@
-use borrow.Author.Tests.{ne_eqb}
+use native.Mathlib.Omega.{arith}
+use Rattle.std.proofs.lemmas.Bool.Decides.{nat_tests}
 use Rattle.marks.specs.Marks.{named}
 use Rattle.marks.proofs.name.Goals as goal
 
@@ -28,13 +29,4 @@ returns-in-25424 c = rw c.in-25424.is
 
 pub returns-in_default : goal.returns-in_default
 unfolding named
-returns-in_default c =
-    let r = c.in_default.rest in
-    rw (
-      ne_eqb _ _ r.0.0.0.0.0.1,
-      ne_eqb _ _ r.0.0.0.0.1,
-      ne_eqb _ _ r.0.0.0.1,
-      ne_eqb _ _ r.0.0.1,
-      ne_eqb _ _ r.0.1,
-      ne_eqb _ _ r.1,
-    )
+returns-in_default c = grind (arith, nat_tests)

@@ -8,7 +8,7 @@ use Rattle.pairing.proofs.take.Goals as goal
 
 pub returns-then-pairs-ge-PAIRS : goal.returns-then-pairs-ge-PAIRS
 unfolding tried paired
-returns-then-pairs-ge-PAIRS c = (rw (c.over.ensures, c.in-Vt.is, le-leb _ _ c.if-pairs-ge-PAIRS.true), rw c.over.ensures c.requires.0)
+returns-then-pairs-ge-PAIRS c = record { fact = rw (c.over.ensures, c.in-Vt.is, le-leb _ _ c.if-pairs-ge-PAIRS.true); pairs_bound = rw c.over.ensures c.requires.0 }
 
 pub word-requires : goal.word-requires
 word-requires c = omega (arith, c.requires.1 ∙ ap size c.in-Vt.is)
@@ -18,24 +18,24 @@ long-requires c = omega (arith, c.requires.1 ∙ ap size c.in-Vt.is)
 
 pub returns-else-pairs-ge-PAIRS : goal.returns-else-pairs-ge-PAIRS
 unfolding tried paired
-returns-else-pairs-ge-PAIRS c = (rw (c.in-Vt.is, c.word.ensures.0, c.long.ensures, lt-leb _ _ c.if-pairs-ge-PAIRS.false), omega arith)
+returns-else-pairs-ge-PAIRS c = record { fact = rw (c.in-Vt.is, c.word.ensures.0, c.long.ensures, lt-leb _ _ c.if-pairs-ge-PAIRS.false); pairs_bound = omega arith }
 
 pub returns-in-Rt : goal.returns-in-Rt
 unfolding tried paired
-returns-in-Rt c = (rw (c.over-in-Rt.ensures, c.in-Rt.is), rw c.over-in-Rt.ensures c.requires.0)
+returns-in-Rt c = record { fact = rw (c.over-in-Rt.ensures, c.in-Rt.is); pairs_bound = rw c.over-in-Rt.ensures c.requires.0 }
 
 pub returns-in-Bk : goal.returns-in-Bk
 unfolding tried paired
-returns-in-Bk c = (rw (c.over-in-Bk.ensures, c.in-Bk.is), rw c.over-in-Bk.ensures c.requires.0)
+returns-in-Bk c = record { fact = rw (c.over-in-Bk.ensures, c.in-Bk.is); pairs_bound = rw c.over-in-Bk.ensures c.requires.0 }
 
 pub returns-in-Op : goal.returns-in-Op
 unfolding tried paired
-returns-in-Op c = (rw (c.over-in-Op.ensures, c.in-Op.is), rw c.over-in-Op.ensures c.requires.0)
+returns-in-Op c = record { fact = rw (c.over-in-Op.ensures, c.in-Op.is); pairs_bound = rw c.over-in-Op.ensures c.requires.0 }
 
 pub returns-in-Pv : goal.returns-in-Pv
 unfolding tried paired
-returns-in-Pv c = (rw (c.over-in-Pv.ensures, c.in-Pv.is), rw c.over-in-Pv.ensures c.requires.0)
+returns-in-Pv c = record { fact = rw (c.over-in-Pv.ensures, c.in-Pv.is); pairs_bound = rw c.over-in-Pv.ensures c.requires.0 }
 
 pub returns-in-Pc : goal.returns-in-Pc
 unfolding tried paired
-returns-in-Pc c = (rw (c.over-in-Pc.ensures, c.in-Pc.is), rw c.over-in-Pc.ensures c.requires.0)
+returns-in-Pc c = record { fact = rw (c.over-in-Pc.ensures, c.in-Pc.is); pairs_bound = rw c.over-in-Pc.ensures c.requires.0 }

@@ -1,4 +1,5 @@
 use native.Mathlib.Omega.{arith}
+use borrow.Author.Tests.{not-true, not-false}
 use Rattle.grandpa.proofs.Trees.{below_le}
 use Rattle.vote_search.proofs.Together.{on_start, on_outside, on_weighty, on_base, on_up}
 use Rattle.vote_search.proofs.find_both.Goals as goal
@@ -10,15 +11,15 @@ pub cumulative_vote-tally-requires : goal.cumulative_vote-tally-requires
 cumulative_vote-tally-requires c = let s = c.requires.2.sound in (s.parents_fall, s.above_falls, s.tips_fit)
 
 pub returns-then-not-tally : goal.returns-then-not-tally
-returns-then-not-tally c = on_outside _ _ _ _ _ c.requires.2.sound _ _ _ _ _ _ c.loop-equivocations.invariant _ c.cumulative_vote-tally.ensures (c.if-not-tally.true)
+returns-then-not-tally c = on_outside _ _ _ _ _ c.requires.2.sound _ _ _ _ _ _ c.loop-equivocations.invariant _ c.cumulative_vote-tally.ensures (not-true _ c.if-not-tally.true)
 
 pub returns-then-still-weight : goal.returns-then-still-weight
 returns-then-still-weight c =
-    on_weighty _ _ _ _ _ c.requires.2.sound _ _ _ _ _ _ c.loop-equivocations.invariant _ c.cumulative_vote-tally.ensures (c.if-not-tally.false) _ c.merged_weight-weight.ensures _ c.or_this-possible.ensures c.if-still-weight.true
+    on_weighty _ _ _ _ _ c.requires.2.sound _ _ _ _ _ _ c.loop-equivocations.invariant _ c.cumulative_vote-tally.ensures (not-false _ c.if-not-tally.false) _ c.merged_weight-weight.ensures _ c.or_this-possible.ensures c.if-still-weight.true
 
 pub returns-then-here-base : goal.returns-then-here-base
 returns-then-here-base c =
-    on_base _ _ _ _ _ c.requires.2.sound _ _ _ _ _ _ c.loop-equivocations.invariant _ c.cumulative_vote-tally.ensures (c.if-not-tally.false) _ c.merged_weight-weight.ensures _ c.or_this-possible.ensures c.if-still-weight.false c.if-here-base.true
+    on_base _ _ _ _ _ c.requires.2.sound _ _ _ _ _ _ c.loop-equivocations.invariant _ c.cumulative_vote-tally.ensures (not-false _ c.if-not-tally.false) _ c.merged_weight-weight.ensures _ c.or_this-possible.ensures c.if-still-weight.false c.if-here-base.true
 
 pub bounds-parents-wide : goal.bounds-parents-wide
 bounds-parents-wide c = c.wide.ensures.1
@@ -30,4 +31,4 @@ loop-equivocations-smaller c =
 
 pub loop-equivocations-preserved : goal.loop-equivocations-preserved
 loop-equivocations-preserved c =
-    on_up _ _ _ _ _ c.requires.2.sound _ _ _ _ _ _ c.loop-equivocations.invariant _ c.cumulative_vote-tally.ensures (c.if-not-tally.false) _ c.merged_weight-weight.ensures _ c.or_this-possible.ensures c.if-still-weight.false c.if-here-base.false _ c.wide.ensures.0
+    on_up _ _ _ _ _ c.requires.2.sound _ _ _ _ _ _ c.loop-equivocations.invariant _ c.cumulative_vote-tally.ensures (not-false _ c.if-not-tally.false) _ c.merged_weight-weight.ensures _ c.or_this-possible.ensures c.if-still-weight.false c.if-here-base.false _ c.wide.ensures.0

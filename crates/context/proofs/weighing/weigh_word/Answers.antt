@@ -6,8 +6,6 @@ use Rattle.context.proofs.Sums.{word_turn, word_end}
 use borrow.Author.Rules.{rules}
 use Rattle.context.proofs.weighing.weigh_word.Goals as goal
 
-here : (c : tie.In-loop invariant_loop decreases_loop) → Low c.before.loop.left
-here c = low c.before.loop.left (omega arith) c.before.loop.invariant.0
 
 pub loop-left-init : goal.loop-left-init
 loop-left-init c = (search rules, search rules, refl)
@@ -16,23 +14,23 @@ pub overflow_sub-zeros : goal.overflow_sub-zeros
 overflow_sub-zeros c = and_le_l _ _
 
 pub overflow_cast-zeros : goal.overflow_cast-zeros
-overflow_cast-zeros c = omega (arith, (here c).under)
+overflow_cast-zeros c = omega (arith, (low c.loop-left.left (omega arith) c.loop-left.invariant.0).under)
 
 pub overflow_add-place : goal.overflow_add-place
-overflow_add-place c = omega (arith, (here c).under)
+overflow_add-place c = omega (arith, (low c.loop-left.left (omega arith) c.loop-left.invariant.0).under)
 
 pub offset_bounds-weights-place : goal.offset_bounds-weights-place
-offset_bounds-weights-place c = omega (arith, (here c).under)
+offset_bounds-weights-place c = omega (arith, (low c.loop-left.left (omega arith) c.loop-left.invariant.0).under)
 
 pub bounds-weights-place : goal.bounds-weights-place
-bounds-weights-place c = omega (arith, (here c).under)
+bounds-weights-place c = omega (arith, (low c.loop-left.left (omega arith) c.loop-left.invariant.0).under)
 
 pub loop-left-smaller : goal.loop-left-smaller
-loop-left-smaller c = (here c.before.before).less
+loop-left-smaller c = (low c.loop-left.left (omega arith) c.loop-left.invariant.0).less
 
 pub loop-left-preserved : goal.loop-left-preserved
 loop-left-preserved c =
-    let l = here c.before.before in
+    let l = low c.loop-left.left (omega arith) c.loop-left.invariant.0 in
     (omega (arith, l.less), omega (arith, c.add-more.ensures), rw c.add-more.ensures (word_turn _ _ _ _ (omega arith) c.loop-left.invariant.0 c.loop-left.invariant.2))
 
 pub returns : goal.returns
