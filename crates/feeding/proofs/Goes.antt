@@ -237,10 +237,9 @@ unfolding after_run
 after_over n p bs q m is_m r e =
     e ∙ ap (λ (i : ℕ). stopped_by p.journal i 18) is_m ∙ sym (ap (λ (x : End). ended_by x n (run_of p bs)) q)
 
-pub rest_done : (bs kept : List ℕ) → kept ≡ take (length bs) bs ++ drop (length bs) (replicate 22 0) → record { bytes = kept; count = length bs } ≡ kept_rest bs
+pub rest_done : (bs kept : List ℕ) → kept ≡ bs ++ drop (length bs) (replicate 22 0) → record { bytes = kept; count = length bs } ≡ kept_rest bs
 unfolding kept_rest
-rest_done bs kept e =
-    ap (λ (l : List ℕ). record { bytes = l; count = length bs }) (e ∙ ap (λ (l : List ℕ). l ++ drop (length bs) (replicate 22 0)) (take-length bs))
+rest_done bs kept e = ap (λ (l : List ℕ). record { bytes = l; count = length bs }) e
 
 -- a state that passes the test is ready
 pub feed_ready : (r : Replay) → r.journal.round.context.voters.total ≤ most → joint.stands r ≡ true
@@ -261,8 +260,8 @@ blank = replicate 44 0
 
 -- two copies into an array of zeros, the second behind the first
 pub lay_done : (s t one two : List ℕ) (count : ℕ) → length s ≡ count → count + length t ≤ 44
-    → one ≡ take (length s) s ++ drop (length s) blank
-    → two ≡ take (length t) t ++ drop (length t) (mid_of count (44 - count) one)
+    → one ≡ s ++ drop (length s) blank
+    → two ≡ t ++ drop (length t) (mid_of count (44 - count) one)
     → record { bytes = put_mid count (44 - count) one two; count = count + length t } ≡ joint.laid (s ++ t)
 unfolding joint.laid
 lay_done s t one two count l room e f = λ i. record { bytes = bytes_are i; count = sizes i }
@@ -272,7 +271,7 @@ lay_done s t one two count l room e f = λ i. record { bytes = bytes_are i; coun
 
     first : one ≡ s ++ drop count blank
     first =
-        e ∙ (λ i. take-length s i ++ drop (l i) blank)
+        e ∙ (λ i. s ++ drop (l i) blank)
 
     later : drop count one ≡ drop count blank
     later = ap (drop count) first ∙ drop_at s (drop count blank) count l
@@ -290,7 +289,7 @@ lay_done s t one two count l room e f = λ i. record { bytes = bytes_are i; coun
 
     second : two ≡ t ++ drop (count + length t) blank
     second =
-        f ∙ (λ i. take-length t i ++ drop (length t) (middle i)) ∙ ap (λ (x : List ℕ). t ++ x) (drop-drop (length t) count blank)
+        f ∙ (λ i. t ++ drop (length t) (middle i)) ∙ ap (λ (x : List ℕ). t ++ x) (drop-drop (length t) count blank)
 
     bytes_are : put_mid count (44 - count) one two ≡ (s ++ t) ++ drop (length (s ++ t)) blank
     bytes_are =

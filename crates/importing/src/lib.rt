@@ -3,7 +3,7 @@
 
 ghost use Rattle.std.specs.Prelude.{◌≡◌};
 ghost use Rattle.weights.specs.Weights.{plus};
-ghost use Rattle.lent.specs.Moment.{given, before, after};
+ghost use Rattle.lent.specs.Moment.{given, before, given_mut, before_mut, after};
 ghost use Rattle.nodes.specs.Columns.{graph_at};
 ghost use Rattle.answers.specs.Update.{scene, told_after, InBase, Grounded};
 ghost use Rattle.importing.specs.Import.{blank, with_heard, taken, import, Ready};
@@ -162,10 +162,10 @@ pub fn import<'a>(
     pair: Pair,
 ) -> Step
     requires { Ready (frame_at given voters weights size total threshold number ids numbers parents blocks base)
-        (held_at given used above rows order heads counts first_block first_signature second_target second_number second_signature entries standing) }
+        (held_at given_mut used above rows order heads counts first_block first_signature second_target second_number second_signature entries standing) }
     ensures { taken result.answer (held_at after used above rows order heads counts first_block first_signature second_target second_number second_signature entries result.standing)
         ≡ import (frame_at before voters weights size total threshold number ids numbers parents blocks base) phase signer pair
-        (held_at before used above rows order heads counts first_block first_signature second_target second_number second_signature entries standing) }
+        (held_at before_mut used above rows order heads counts first_block first_signature second_target second_number second_signature entries standing) }
 {
     let verdict = judging::judge(
         voters,

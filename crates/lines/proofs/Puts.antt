@@ -22,7 +22,7 @@ length_put {old} {text} {new} {at} {next} p =
 
 -- a text copied into the part of a buffer that remains
 pub put_part : (old s part : List ℕ) (at : ℕ) → at + length s ≤ length old
-    → part ≡ take (length s) s ++ drop (length s) (take (length old - at) (drop at old))
+    → part ≡ s ++ drop (length s) (take (length old - at) (drop at old))
     → Put old at s (take at old ++ (part ++ drop (length old - at) (drop at old))) (at + length s)
 put_part old s part at room e =
     let n : length (drop at old) ≤ length old - at = omega (arith, length-drop at old) in
@@ -30,7 +30,6 @@ put_part old s part at room e =
       bytes_are =
           rw (
             e,
-            take-length s,
             take_all (length old - at) (drop at old) n,
             drop_of_length-le (drop at old) n,
             drop-drop (length s) at old,

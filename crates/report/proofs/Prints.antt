@@ -54,12 +54,11 @@ module _ (r : Replay) (passes : stands r ≡ true) (out : List ℕ) (n : ℕ) (f
   print_short h = rw (passes, lt-ltb (length out) (length (lines_of r)) (omega arith))
 
   pub print_done : n ≤ length out → (old new : List ℕ) → new ≡ lines_of r ++ drop (length (lines_of r)) old → (after : List ℕ)
-      → after ≡ take (length (take n new)) (take n new) ++ drop (length (take n new)) out → record { answer = answer.Bytes n; bytes = after } ≡ printed r out
+      → after ≡ take n new ++ drop (length (take n new)) out → record { answer = answer.Bytes n; bytes = after } ≡ printed r out
   unfolding printed
   print_done h old new e after g =
       rw (passes, le-ltb (length out) (length (lines_of r)) (omega arith)) (λ i. record { answer = answer.Bytes (f i); bytes = bytes_are i })
     where
       bytes_are : after ≡ lines_of r ++ drop (length (lines_of r)) out
       bytes_are =
-          g ∙ (λ i. take-length (take n new) i ++ drop (length (take n new)) out)
-          ∙ ap (λ (x : List ℕ). x ++ drop (length x) out) (is_text (lines_of r) old new n e f)
+          g ∙ ap (λ (x : List ℕ). x ++ drop (length x) out) (is_text (lines_of r) old new n e f)

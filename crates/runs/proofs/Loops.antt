@@ -1,17 +1,14 @@
 -- A loop over records in code: what holds before each record, and one law for each way through the body.
 use mathlib.Core.List.{List}
-use mathlib.Core.Logic.{◌⊎◌, inl, inr}
 use mathlib.Core.Path.{◌≡◌, refl, sym, ap, ◌∙◌}
 use Prim.Native.Nat.{ℕ, ◌+◌, ◌-◌, ◌^◌, ◌≤◌, ◌<◌}
 use native.Mathlib.Omega.{arith}
 use mir.Syntax.{w64}
 use mir.Val.{Fits}
-use denote.Enum.Declared.{tag_of}
 use lib.ListN.{length, take, drop}
 use Rattle.marks.specs.declared.Mark.{Mark}
 use Rattle.marks.specs.declared.Record.{Record}
 use Rattle.marks.specs.declared.Record.TheVariants as is
-use Rattle.marks.specs.contracts.Record.{the_type}
 use Rattle.marks.specs.declared.End.{End}
 use Rattle.marks.specs.declared.End.TheVariants.{Cut}
 use Rattle.marks.specs.declared.Turn.{Turn}
@@ -27,7 +24,7 @@ part at bs = take (length bs - at) (drop at bs)
 
 -- what code knows past `let Record::Whole(mark) = .. else`
 abbrev pub NotWhole : Record → Type 0
-NotWhole r = (tag_of the_type r ≡ 1) ⊎ (tag_of the_type r ≡ 2)
+NotWhole r = (m : Mark) → r ≡ is.Whole m → ⊥
 
 -- why a loop is over
 abbrev over : Turn → End
@@ -121,8 +118,7 @@ module _ {S : Type 0} (step : S → Mark → List ℕ → Next S) where
 
   -- no record is whole
   none_whole : (s : S) (n : ℕ) (bs : List ℕ) (x : Record) → read bs ≡ x → NotWhole x → ended s n bs (ends x) ≡ counted n (ran step s bs)
-  none_whole s n bs (is.Whole m) w (inl e) = absurd (omega (arith, e))
-  none_whole s n bs (is.Whole m) w (inr e) = absurd (omega (arith, e))
+  none_whole s n bs (is.Whole m) w h = absurd (h m refl)
   none_whole s n bs is.Cut w h = sym (run_cut step s n bs w)
   none_whole s n bs is.Unknown w h = sym (run_unknown step s n bs w)
 

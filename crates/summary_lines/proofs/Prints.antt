@@ -18,7 +18,7 @@ module _ (s : Summary) (out : List ℕ) (n : ℕ) (f : n ≡ length (text_of s))
   print_short h = rw (lt-ltb (length out) (length (text_of s)) (omega arith))
 
   pub print_done : n ≤ length out → (old new : List ℕ) → new ≡ text_of s ++ drop (length (text_of s)) old → (after : List ℕ)
-      → after ≡ take (length (take n new)) (take n new) ++ drop (length (take n new)) out → record { answer = answer.Bytes n; bytes = after } ≡ printed s out
+      → after ≡ take n new ++ drop (length (take n new)) out → record { answer = answer.Bytes n; bytes = after } ≡ printed s out
   unfolding printed
   print_done h old new e after g =
       rw (le-ltb (length out) (length (text_of s)) (omega arith)) (λ i. record { answer = answer.Bytes (f i); bytes = bytes_are i })
@@ -28,7 +28,7 @@ module _ (s : Summary) (out : List ℕ) (n : ℕ) (f : n ≡ length (text_of s))
 
       bytes_are : after ≡ text_of s ++ drop (length (text_of s)) out
       bytes_are =
-          g ∙ (λ i. take-length (take n new) i ++ drop (length (take n new)) out) ∙ ap (λ (x : List ℕ). x ++ drop (length x) out) is_text
+          g ∙ ap (λ (x : List ℕ). x ++ drop (length x) out) is_text
 
 -- the text that is due
 pub text_when : (s : Summary) (o : Outcome) → s.outcome ≡ o → text_of s ≡ text_by o s

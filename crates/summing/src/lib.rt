@@ -7,7 +7,7 @@ ghost use Rattle.sizes.specs.Sizes.{PAIRS};
 ghost use Rattle.voter_set.specs.Voters.{new};
 ghost use Rattle.block_table.specs.Add.{opened};
 ghost use Rattle.held_laws.specs.Kept.{Kept};
-ghost use Rattle.lent.specs.Moment.{given, before};
+ghost use Rattle.lent.specs.Moment.{given_mut, before_mut};
 ghost use Rattle.importing.specs.Import.{framed, opened_held};
 ghost use Rattle.importing.specs.Lent.{table_at};
 ghost use Rattle.marks.specs.declared.Mark.TheVariants.{Rt, Op};
@@ -110,8 +110,8 @@ fn votes(
     records: u64,
     bytes: &[u8],
 ) -> Summary
-    requires { Kept (framed number voters (table_at given ids numbers parents blocks) base) (opened_held base) }
-    ensures { result ≡ told records (voting (opened_round number voters (table_at before ids numbers parents blocks) base)) bytes.now }
+    requires { Kept (framed number voters (table_at given_mut ids numbers parents blocks) base) (opened_held base) }
+    ensures { result ≡ told records (voting (opened_round number voters (table_at before_mut ids numbers parents blocks) base)) bytes.now }
 {
     let mut used = [false; BLOCKS];
     let mut above = [0u8; BLOCKS];
@@ -185,8 +185,8 @@ fn open(
     records: u64,
     part: &[u8],
 ) -> Summary
-    requires { Stands Kept (growing voters (table_at given ids numbers parents blocks)) × (read part.now ≡ Whole Op) }
-    ensures { result ≡ told records (growing voters (table_at before ids numbers parents blocks)) part.now }
+    requires { Stands Kept (growing voters (table_at given_mut ids numbers parents blocks)) × (read part.now ≡ Whole Op) }
+    ensures { result ≡ told records (growing voters (table_at before_mut ids numbers parents blocks)) part.now }
 {
     let fields = marks::fields(part, Mark::Op);
     let number = marks::long(fields, 0);

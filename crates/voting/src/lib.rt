@@ -3,8 +3,9 @@
 #![tactic(auto)]
 
 ghost use Rattle.std.specs.Prelude.{◌≡◌, ◌≤◌, length, drop};
-ghost use Rattle.lent.specs.Moment.{given, before, after};
-ghost use Rattle.importing.specs.Lent.{frame_at, held_at};
+ghost use Rattle.lent.specs.Moment.{given, before, given_mut, before_mut, after};
+ghost use Rattle.importing.specs.Import.{framed};
+ghost use Rattle.importing.specs.Lent.{voters_at, table_at, held_at};
 ghost use Rattle.held_laws.specs.Kept.{Kept};
 ghost use Rattle.marks.specs.Marks as marks;
 ghost use Rattle.runs.specs.Run.{ended, ran};
@@ -112,16 +113,16 @@ fn take<'a>(
     mark: Mark,
     fields: &[u8],
 ) -> Took
-    requires { Kept (frame_at given voters weights size total threshold number ids numbers parents blocks base)
-        (held_at given used above rows order heads counts first_block first_signature second_target second_number second_signature entries standing)
+    requires { Kept (framed number (voters_at given voters weights size total threshold) (table_at given_mut ids numbers parents blocks) base)
+        (held_at given_mut used above rows order heads counts first_block first_signature second_target second_number second_signature entries standing)
         × (length fields.now ≡ marks.size mark) }
     ensures { ◌≡◌ {A = Tried Voting} (record {
-      state = both (frame_at after voters weights size total threshold number ids numbers parents result.blocks base)
+      state = both (framed number (voters_at before voters weights size total threshold) (table_at after ids numbers parents result.blocks) base)
           (held_at after used above rows order heads counts first_block first_signature second_target second_number second_signature entries result.standing);
       turn = result.turn;
     })
-        (tried voted (both (frame_at before voters weights size total threshold number ids numbers parents blocks base)
-        (held_at before used above rows order heads counts first_block first_signature second_target second_number second_signature entries standing)) mark fields.now) }
+        (tried voted (both (framed number (voters_at before voters weights size total threshold) (table_at before_mut ids numbers parents blocks) base)
+        (held_at before_mut used above rows order heads counts first_block first_signature second_target second_number second_signature entries standing)) mark fields.now) }
 {
     match kind_of(mark) {
         Kind::Block => {
@@ -209,15 +210,15 @@ pub fn run<'a>(
     standing: Standing,
     bytes: &[u8],
 ) -> Ran
-    requires { Kept (frame_at given voters weights size total threshold number ids numbers parents blocks base)
-        (held_at given used above rows order heads counts first_block first_signature second_target second_number second_signature entries standing) }
-    ensures end_value { ended (both (frame_at after voters weights size total threshold number ids numbers parents result.blocks base)
+    requires { Kept (framed number (voters_at given voters weights size total threshold) (table_at given_mut ids numbers parents blocks) base)
+        (held_at given_mut used above rows order heads counts first_block first_signature second_target second_number second_signature entries standing) }
+    ensures end_value { ended (both (framed number (voters_at before voters weights size total threshold) (table_at after ids numbers parents result.blocks) base)
         (held_at after used above rows order heads counts first_block first_signature second_target second_number second_signature entries result.standing))
         result.count (drop result.at bytes.now) result.end
-        ≡ ran voted (both (frame_at before voters weights size total threshold number ids numbers parents blocks base)
-        (held_at before used above rows order heads counts first_block first_signature second_target second_number second_signature entries standing)) bytes.now }
+        ≡ ran voted (both (framed number (voters_at before voters weights size total threshold) (table_at before_mut ids numbers parents blocks) base)
+        (held_at before_mut used above rows order heads counts first_block first_signature second_target second_number second_signature entries standing)) bytes.now }
     ensures count_le_at { (result.count ≤ result.at) × (result.at ≤ length bytes.now) }
-    ensures kept { Kept (frame_at after voters weights size total threshold number ids numbers parents result.blocks base)
+    ensures kept { Kept (framed number (voters_at before voters weights size total threshold) (table_at after ids numbers parents result.blocks) base)
         (held_at after used above rows order heads counts first_block first_signature second_target second_number second_signature entries result.standing) }
 {
     let mut grown = blocks;

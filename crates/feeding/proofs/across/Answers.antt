@@ -39,10 +39,6 @@ slice_bounds-part-count c =
     let s : 0 < c.run-first.result.count = omega (arith, c.if-taken-eq0.false) in
     omega (arith, (across_fits c.args.journal c.args.rest c.join-joint.ensures.1 c.requires.1 0 c.args.piece.now _ (joint_bytes _ _ c.join-joint.ensures.0) c.run-first.result c.run-first.ensures.0 c.run-first.ensures.1.0 c.in-Cut.is s).1)
 
--- TODO no goal stands for slice-bounds-part-start : let s : 0 < c.before.before.before.before.run.result.count = omega (arith, c.before.if1.false) in     omega (arith, (across_fits c.before.before.before.before.before.before.before.before.before.before.args.journal c.before.before.before.before.before.before.before.before.before.before.args.rest c.before.before.before.before.before.before.before.join.ensures.1 c.before.before.before.before.before.before.before.before.before.before.requires.1 0 c.before.before.before.before.before.before.before.before.before.before.args.piece.now _ (joint_bytes _ _ c.before.before.before.before.before.before.before.join.ensures.0) c.before.before.before.before.run.result c.before.before.before.before.run.ensures.0 c.before.before.before.before.run.ensures.1.0 c.before.before.enum_told.given.1 s).1)
-
--- TODO no goal stands for slice-bounds-part-end : let s : 0 < c.before.before.before.before.run.result.count = omega (arith, c.before.if1.false) in     omega (arith, (across_fits c.before.before.before.before.before.before.before.before.before.before.args.journal c.before.before.before.before.before.before.before.before.before.before.args.rest c.before.before.before.before.before.before.before.join.ensures.1 c.before.before.before.before.before.before.before.before.before.before.requires.1 0 c.before.before.before.before.before.before.before.before.before.before.args.piece.now _ (joint_bytes _ _ c.before.before.before.before.before.before.before.join.ensures.0) c.before.before.before.before.run.result c.before.before.before.before.run.ensures.0 c.before.before.before.before.run.ensures.1.0 c.before.before.enum_told.given.1 s).1)
-
 pub run-requires : goal.run-requires
 run-requires c = run_stands _ _ c.run-first.result c.run-first.ensures.0 c.requires.0
 

@@ -13,10 +13,6 @@ loop-k-init c = (search rules, filled_none _ _)
 pub slice_bounds-put-count : goal.slice_bounds-put-count
 slice_bounds-put-count c = omega (arith, c.loop-k.invariant.1.used_is, length_put c.loop-k.invariant.1.put, c.loop-k-test.true, c.requires)
 
--- TODO no goal stands for slice-bounds-put-start : omega (arith, c.before.loop.invariant.1.used_is, length_put c.before.loop.invariant.1.put, c.loop-test.true, c.before.before.before.requires)
-
--- TODO no goal stands for slice-bounds-put-end : omega arith
-
 pub offset_bounds-numbers-k : goal.offset_bounds-numbers-k
 offset_bounds-numbers-k c = omega (arith, c.loop-k-test.true)
 

@@ -3,25 +3,25 @@ use Rattle.journal.proofs.Done.{paired_cut, paired_refused, paired_read, paired_
 use Rattle.journal.proofs.from_voters.Goals as goal
 
 pub root-requires : goal.root-requires
-root-requires c = (c.run-ran.ensures.1.0, paired_read _ c.requires _ _ c.run-ran.result.at _ _ c.run-ran.ensures.0 c.in-Left.is)
+root-requires c = (c.run-ran.ensures.pairs_bound.0, paired_read _ c.requires _ _ c.run-ran.result.at _ _ c.run-ran.ensures.fact c.in-Left.is)
 
 pub later-requires : goal.later-requires
-later-requires c = later_fits _ _ c.args.bytes.now c.run-ran.ensures.1.1 c.run-ran.ensures.1.2 c.root.result c.root.ensures.1.0 c.root.ensures.1.1 (omega (arith, c.well_formed.1.0))
+later-requires c = later_fits _ _ c.args.bytes.now c.run-ran.ensures.pairs_bound.1 c.run-ran.ensures.pairs_bound.2 c.root.result c.root.ensures.1.0 c.root.ensures.1.1 (omega (arith, c.well_formed.1.0))
 
 pub returns-in-Left : goal.returns-in-Left
 returns-in-Left c = (
-  paired_done _ c.requires _ _ c.run-ran.result.at _ _ c.run-ran.ensures.0 c.in-Left.is _ _ c.root.ensures.0 c.later.ensures,
-  later_within _ _ c.args.bytes.now c.run-ran.ensures.1.1 c.run-ran.ensures.1.2 c.root.result c.root.ensures.1.0 c.root.ensures.1.1 _ c.later.ensures,
+  paired_done _ c.requires _ _ c.run-ran.result.at _ _ c.run-ran.ensures.fact c.in-Left.is _ _ c.root.ensures.0 c.later.ensures,
+  later_within _ _ c.args.bytes.now c.run-ran.ensures.pairs_bound.1 c.run-ran.ensures.pairs_bound.2 c.root.result c.root.ensures.1.0 c.root.ensures.1.1 _ c.later.ensures,
 )
 
 pub returns-in-Cut : goal.returns-in-Cut
 returns-in-Cut c = (
-  paired_cut _ c.requires _ _ c.run-ran.result.at _ _ c.run-ran.ensures.0 c.in-Cut.is _ c.with_pairs.ensures,
-  (c.run-ran.ensures.1.2, c.run-ran.ensures.1.1),
+  paired_cut _ c.requires _ _ c.run-ran.result.at _ _ c.run-ran.ensures.fact c.in-Cut.is _ c.with_pairs.ensures,
+  (c.run-ran.ensures.pairs_bound.2, c.run-ran.ensures.pairs_bound.1),
 )
 
 pub returns-in-Refused : goal.returns-in-Refused
 returns-in-Refused c = (
-  paired_refused _ c.requires _ _ c.run-ran.result.at _ _ c.run-ran.ensures.0 _ c.in-Refused.is _ c.with_pairs-in-Refused.ensures,
-  (c.run-ran.ensures.1.2, c.run-ran.ensures.1.1),
+  paired_refused _ c.requires _ _ c.run-ran.result.at _ _ c.run-ran.ensures.fact _ c.in-Refused.is _ c.with_pairs-in-Refused.ensures,
+  (c.run-ran.ensures.pairs_bound.2, c.run-ran.ensures.pairs_bound.1),
 )

@@ -24,10 +24,6 @@ returns-in_default c = (
 pub slice_bounds-from_votes-count : goal.slice_bounds-from_votes-count
 slice_bounds-from_votes-count c = omega (arith, (whole_means _ _ c.requires.1).1)
 
--- TODO no goal stands for slice-bounds-from-votes-start : omega (arith, (whole_means _ _ c.before.before.before.before.before.before.before.before.before.before.before.requires.1).1)
-
--- TODO no goal stands for slice-bounds-from-votes-end : omega (arith, (whole_means _ _ c.before.before.before.before.before.before.before.before.before.before.before.requires.1).1)
-
 pub from_votes-requires : goal.from_votes-requires
 from_votes-requires c = op_ready _ _ c.requires.0 _ c.requires.1 _ c.fields-fields.ensures _ c.word-base.ensures.0 _ c.long-number.ensures _ (sym c.find.ensures ∙ c.in-At.is) _ c.opened-opened.ensures
 

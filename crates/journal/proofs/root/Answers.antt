@@ -18,10 +18,6 @@ word-requires-in-Made c = omega (arith, ap length c.fields-fields.ensures ∙ wh
 pub slice_bounds-from_blocks-count : goal.slice_bounds-from_blocks-count
 slice_bounds-from_blocks-count c = omega (arith, (whole_means _ _ c.requires.1).1)
 
--- TODO no goal stands for slice-bounds-from-blocks-start : omega (arith, (whole_means _ _ c.before.before.before.before.before.before.before.before.before.before.before.requires.1).1)
-
--- TODO no goal stands for slice-bounds-from-blocks-end : omega (arith, (whole_means _ _ c.before.before.before.before.before.before.before.before.before.before.before.requires.1).1)
-
 pub from_blocks-requires : goal.from_blocks-requires
 from_blocks-requires c = rt_ready c.args.pairs _ c.requires.1 _ c.fields-fields.ensures _ c.make-made.ensures c.in-Made.is _ _ c.word.ensures.0 c.word-in-Made.ensures.0 _ c.new-table.ensures
 

@@ -3,7 +3,7 @@ use Rattle.lines.proofs.Decimals.{few, put_decimal}
 use Rattle.lines.proofs.put_number.Goals as goal
 
 pub put-requires : goal.put-requires
-put-requires c = omega (arith, few _ _ c.decimal-k.ensures.1.0 (omega arith), c.decimal-k.ensures.0.1)
+put-requires c = omega (arith, few _ _ c.decimal-k.ensures.len (omega arith), c.decimal-k.ensures.in_bounds.1)
 
 pub returns : goal.returns
-returns c = put_decimal _ _ _ c.decimal-k.ensures.1.0 (omega arith) c.decimal-k.ensures.1.1 c.put.ensures
+returns c = put_decimal _ _ _ c.decimal-k.ensures.len (omega arith) c.decimal-k.ensures.digits c.put.ensures

@@ -34,10 +34,6 @@ index_place-place-requires c = c.entry_index-at.ensures.1
 pub slice_bounds-put_vote-count : goal.slice_bounds-put_vote-count
 slice_bounds-put_vote-count c = omega (arith, c.loop-k.invariant.1.used_is, c.loop-k.invariant.1.size, c.loop-k-test.true, c.if-out-count.false)
 
--- TODO no goal stands for slice-bounds-put-vote-start : omega (arith, c.before.before.before.before.before.before.loop.invariant.1.used_is, c.before.before.before.before.before.before.loop.invariant.1.size, c.before.before.before.before.before.loop-test.true, c.before.before.before.before.before.before.before.if1.false)
-
--- TODO no goal stands for slice-bounds-put-vote-end : omega arith
-
 pub offset_bounds-voters-place : goal.offset_bounds-voters-place
 offset_bounds-voters-place c = omega (arith, c.index_place-place.ensures.1)
 

@@ -14,15 +14,12 @@ loop-mark-init c = (going_start _ _ _, c.requires)
 pub slice_bounds-part-count : goal.slice_bounds-part-count
 slice_bounds-part-count c = c.loop-mark.invariant.0.within
 
--- TODO no goal stands for slice-bounds-part-start : c.loop.invariant.0.within
-
--- TODO no goal stands for slice-bounds-part-end : le_refl _
-
 pub returns-in_default : goal.returns-in_default
-returns-in_default c = (
-  going_ends paired _ _ _ _ _ _ _ c.loop-mark.invariant.0 c.read.ensures c.in_default.keys2 c.ending.ensures,
-  (c.loop-mark.invariant.1, c.loop-mark.invariant.0.fewer, c.loop-mark.invariant.0.within),
-)
+returns-in_default c =
+    record {
+      fact = going_ends paired _ _ _ _ _ _ _ c.loop-mark.invariant.0 c.read.ensures c.in_default.not-Whole c.ending.ensures;
+      pairs_bound = (c.loop-mark.invariant.1, c.loop-mark.invariant.0.fewer, c.loop-mark.invariant.0.within);
+    }
 
 pub fields-fields-requires : goal.fields-fields-requires
 fields-fields-requires c = (whole_means _ _ (sym c.read.ensures ∙ c.in-Whole.is)).1
@@ -45,12 +42,13 @@ loop-mark-smaller c = (going_fits paired _ _ _ _ _ _ _ c.loop-mark.invariant.0 (
 pub loop-mark-preserved : goal.loop-mark-preserved
 loop-mark-preserved c = (
   going_on paired _ _ _ _ _ _ _ _ c.loop-mark.invariant.0 (sym c.read.ensures ∙ c.in-Whole.is) c.fields-fields.ensures
-      (tried_goes paired _ _ _ _ _ c.take-took.ensures.0 c.in-Goes.is),
-  c.take-took.ensures.1,
+      (tried_goes paired _ _ _ _ _ c.take-took.ensures.fact c.in-Goes.is),
+  c.take-took.ensures.pairs_bound,
 )
 
 pub returns-in-Over : goal.returns-in-Over
-returns-in-Over c = (
-  going_over paired _ _ _ _ _ _ _ _ _ _ c.loop-mark.invariant.0 (sym c.read.ensures ∙ c.in-Whole.is) c.fields-fields.ensures c.take-took.ensures.0 c.in-Over.is,
-  (c.take-took.ensures.1, c.loop-mark.invariant.0.fewer, c.loop-mark.invariant.0.within),
-)
+returns-in-Over c =
+    record {
+      fact = going_over paired _ _ _ _ _ _ _ _ _ _ c.loop-mark.invariant.0 (sym c.read.ensures ∙ c.in-Whole.is) c.fields-fields.ensures c.take-took.ensures.fact c.in-Over.is;
+      pairs_bound = (c.take-took.ensures.pairs_bound, c.loop-mark.invariant.0.fewer, c.loop-mark.invariant.0.within);
+    }

@@ -21,4 +21,4 @@ pub copy-requires : goal.copy-requires
 copy-requires c = copy_fits (lines_of c.args.replay) _ _ _ c.put-size.ensures.0 c.put-size.ensures.1 c.args.out.now c.if-out-size.false
 
 pub returns : goal.returns
-returns c = print_done c.args.replay (sym c.is_replay.ensures ∙ c.if-not-is_replay.false) _ _ c.put-size.ensures.1 c.if-out-size.false _ _ c.put-size.ensures.0 _ c.copy.ensures.1
+returns c = print_done c.args.replay (sym c.is_replay.ensures ∙ c.if-not-is_replay.false) _ _ c.put-size.ensures.1 c.if-out-size.false _ _ c.put-size.ensures.0 _ c.copy.ensures

@@ -18,4 +18,4 @@ pub copy-requires : goal.copy-requires
 copy-requires c = copy_fits (text_of c.args.summary) _ _ _ c.put-size.ensures.0 c.put-size.ensures.1 c.args.out.now c.if-out-size.false
 
 pub returns : goal.returns
-returns c = print_done c.args.summary _ _ c.put-size.ensures.1 c.if-out-size.false _ _ c.put-size.ensures.0 _ c.copy.ensures.1
+returns c = print_done c.args.summary _ _ c.put-size.ensures.1 c.if-out-size.false _ _ c.put-size.ensures.0 _ c.copy.ensures

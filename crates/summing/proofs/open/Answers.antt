@@ -21,10 +21,6 @@ returns-in_default c = op_stop _ _ _ c.requires.0 _ c.requires.1 _ c.fields-fiel
 pub slice_bounds-votes-count : goal.slice_bounds-votes-count
 slice_bounds-votes-count c = omega (arith, (whole_means _ _ c.requires.1).1)
 
--- TODO no goal stands for slice-bounds-votes-start : omega (arith, (whole_means _ _ c.before.before.before.before.before.before.before.before.before.before.before.before.before.requires.1).1)
-
--- TODO no goal stands for slice-bounds-votes-end : omega (arith, (whole_means _ _ c.before.before.before.before.before.before.before.before.before.before.before.before.before.requires.1).1)
-
 pub votes-requires : goal.votes-requires
 votes-requires c = op_kept 0 _ _ c.requires.0 _ c.requires.1 _ c.fields-fields.ensures _ c.word-base.ensures.0 _ c.long-number.ensures _ (sym c.find.ensures ∙ c.in-At.is)
 

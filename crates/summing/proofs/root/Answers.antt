@@ -18,10 +18,6 @@ word-height-requires c = omega (arith, ap length c.fields-fields.ensures ∙ who
 pub slice_bounds-grown-count : goal.slice_bounds-grown-count
 slice_bounds-grown-count c = omega (arith, (whole_means _ _ c.requires.1).1)
 
--- TODO no goal stands for slice-bounds-grown-start : omega (arith, (whole_means _ _ c.before.before.before.before.before.before.before.before.before.before.before.requires.1).1)
-
--- TODO no goal stands for slice-bounds-grown-end : omega (arith, (whole_means _ _ c.before.before.before.before.before.before.before.before.before.before.before.requires.1).1)
-
 pub grown-requires : goal.grown-requires
 grown-requires c = rt_stands 0 (record { ids = c.args.ids.now; weights = c.args.weights.now; count = c.args.pairs }) _ c.requires.1 _ c.fields-fields.ensures _ c.make-made.ensures c.in-Made.is _ _ c.word-first.ensures.0 c.word-height.ensures.0
 

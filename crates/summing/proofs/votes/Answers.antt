@@ -5,4 +5,4 @@ pub run-ran-requires : goal.run-ran-requires
 run-ran-requires c = votes_ready _ _ c.wide-at.ensures.0 _ c.blank.ensures c.requires
 
 pub returns : goal.returns
-returns c = votes_told _ _ c.wide-at.ensures.0 _ c.blank.ensures c.requires _ _ _ c.run-ran.result.at _ _ c.run-ran.ensures.0 _ c.more.ensures _ c.closed.ensures
+returns c = votes_told _ _ c.wide-at.ensures.0 _ c.blank.ensures c.requires _ _ _ c.run-ran.result.at _ _ c.run-ran.ensures.end_value _ c.more.ensures _ c.closed.ensures

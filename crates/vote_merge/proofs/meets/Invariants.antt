@@ -11,9 +11,9 @@ use Rattle.vote_merge.proofs.meets.Given as goal
 
 abbrev pub invariant-loop-k : goal.invariant-loop-k
 invariant-loop-k l =
-    (l.k ≤ l.count) × (l : List ℕ) × Kept (col l.parents) (row l.rows) l.block l l.seen l.joined
+    (l.k ≤ l.count) × (ns : List ℕ) × Kept (col l.parents) (row l.rows) l.block ns l.seen l.joined
     × (meets (col l.parents) (row l.rows) (passes l.weights l.question) l.block [] (front l.count l.places)
-    ≡ meets (col l.parents) (row l.rows) (passes l.weights l.question) l.block l (rest (l.count - l.k) l.k l.places))
+    ≡ meets (col l.parents) (row l.rows) (passes l.weights l.question) l.block ns (rest (l.count - l.k) l.k l.places))
 
 abbrev pub decreases-loop-k : goal.decreases-loop-k
 decreases-loop-k l = l.count - l.k

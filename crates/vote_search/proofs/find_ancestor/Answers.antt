@@ -1,3 +1,4 @@
+use borrow.Author.Tests.{not-true, not-false}
 use mathlib.Core.Path.{◌≡◌, refl, sym, ap, ◌∙◌}
 use native.Mathlib.Omega.{arith}
 use Rattle.grandpa.proofs.Trees.{below_le, below_step}
@@ -27,19 +28,19 @@ loop-question-preserved c =
     rw e (
       below_step _ s.parents_fall _ _ c.loop-question.invariant.0 (λ q. c.if-at-base.false (sym q)),
       c.loop-question.invariant.1
-          ∙ ancestor_up _ _ _ _ _ s _ _ c.loop-question.invariant.0 _ c.cumulative_vote-tally.ensures (c.if-not-tally.false) (sym c.passes.ensures ∙ c.if-passes.false) c.if-at-base.false,
+          ∙ ancestor_up _ _ _ _ _ s _ _ c.loop-question.invariant.0 _ c.cumulative_vote-tally.ensures (not-false _ c.if-not-tally.false) (sym c.passes.ensures ∙ c.if-passes.false) c.if-at-base.false,
     )
 
 pub returns-then-not-tally : goal.returns-then-not-tally
 returns-then-not-tally c =
-    sym (ap as_found (c.loop-question.invariant.1 ∙ ancestor_none _ _ _ _ _ c.requires.2.sound _ _ c.loop-question.invariant.0 _ c.cumulative_vote-tally.ensures (c.if-not-tally.true)))
+    sym (ap as_found (c.loop-question.invariant.1 ∙ ancestor_none _ _ _ _ _ c.requires.2.sound _ _ c.loop-question.invariant.0 _ c.cumulative_vote-tally.ensures (not-true _ c.if-not-tally.true)))
 
 pub returns-then-passes : goal.returns-then-passes
 returns-then-passes c =
     sym (ap as_found (c.loop-question.invariant.1
-    ∙ ancestor_here _ _ _ _ _ c.requires.2.sound _ _ c.loop-question.invariant.0 _ c.cumulative_vote-tally.ensures (c.if-not-tally.false) (sym c.passes.ensures ∙ c.if-passes.true)))
+    ∙ ancestor_here _ _ _ _ _ c.requires.2.sound _ _ c.loop-question.invariant.0 _ c.cumulative_vote-tally.ensures (not-false _ c.if-not-tally.false) (sym c.passes.ensures ∙ c.if-passes.true)))
 
 pub returns-then-at-base : goal.returns-then-at-base
 returns-then-at-base c =
     sym (ap as_found (c.loop-question.invariant.1
-    ∙ ancestor_base _ _ _ _ _ c.requires.2.sound _ _ c.loop-question.invariant.0 _ c.cumulative_vote-tally.ensures (c.if-not-tally.false) (sym c.passes.ensures ∙ c.if-passes.false) c.if-at-base.true))
+    ∙ ancestor_base _ _ _ _ _ c.requires.2.sound _ _ c.loop-question.invariant.0 _ c.cumulative_vote-tally.ensures (not-false _ c.if-not-tally.false) (sym c.passes.ensures ∙ c.if-passes.false) c.if-at-base.true))

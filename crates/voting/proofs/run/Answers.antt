@@ -15,15 +15,13 @@ loop-mark-init c = (going_start _ _ _, c.requires)
 pub slice_bounds-part-count : goal.slice_bounds-part-count
 slice_bounds-part-count c = c.loop-mark.invariant.0.within
 
--- TODO no goal stands for slice-bounds-part-start : c.loop.invariant.0.within
-
--- TODO no goal stands for slice-bounds-part-end : le_refl _
-
 pub returns-in_default : goal.returns-in_default
-returns-in_default c = (
-  going_ends voted _ _ _ _ _ _ _ c.loop-mark.invariant.0 c.read.ensures c.in_default.keys2 c.ending.ensures,
-  ((c.loop-mark.invariant.0.fewer, c.loop-mark.invariant.0.within), c.loop-mark.invariant.1),
-)
+returns-in_default c =
+    record {
+      end_value = going_ends voted _ _ _ _ _ _ _ c.loop-mark.invariant.0 c.read.ensures c.in_default.not-Whole c.ending.ensures;
+      count_le_at = (c.loop-mark.invariant.0.fewer, c.loop-mark.invariant.0.within);
+      kept = c.loop-mark.invariant.1;
+    }
 
 pub fields-fields-requires : goal.fields-fields-requires
 fields-fields-requires c = (whole_means _ _ (sym c.read.ensures ∙ c.in-Whole.is)).1
@@ -51,7 +49,9 @@ loop-mark-preserved c = (
 )
 
 pub returns-in-Over : goal.returns-in-Over
-returns-in-Over c = (
-  going_over voted _ _ _ _ _ _ _ _ _ _ c.loop-mark.invariant.0 (sym c.read.ensures ∙ c.in-Whole.is) c.fields-fields.ensures c.take-took.ensures c.in-Over.is,
-  ((c.loop-mark.invariant.0.fewer, c.loop-mark.invariant.0.within), record_keeps _ _ c.loop-mark.invariant.1 _ _ _ _ _ c.take-took.ensures),
-)
+returns-in-Over c =
+    record {
+      end_value = going_over voted _ _ _ _ _ _ _ _ _ _ c.loop-mark.invariant.0 (sym c.read.ensures ∙ c.in-Whole.is) c.fields-fields.ensures c.take-took.ensures c.in-Over.is;
+      count_le_at = (c.loop-mark.invariant.0.fewer, c.loop-mark.invariant.0.within);
+      kept = record_keeps _ _ c.loop-mark.invariant.1 _ _ _ _ _ c.take-took.ensures;
+    }

@@ -16,7 +16,7 @@ pub import-step-requires : goal.import-step-requires
 import-step-requires c = vote_ready _ _ c.requires.0
 
 pub returns-in-Block : goal.returns-in-Block
-returns-in-Block c = block_done _ _ c.requires.0 _ _ (sym c.in-Block.is ∙ c.kind_of.ensures) _ _ c.add-took.ensures.0
+returns-in-Block c = block_done _ _ c.requires.0 _ _ (sym c.in-Block.is ∙ c.kind_of.ensures) _ _ c.add-took.ensures.fact
 
 pub returns-in-Vote : goal.returns-in-Vote
 returns-in-Vote c =

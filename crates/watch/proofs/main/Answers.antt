@@ -3,7 +3,5 @@ use lib.Seq.{length-take-le}
 use borrow.Author.Rules.{rules}
 use Rattle.watch.proofs.main.Goals as goal
 
--- TODO no goal stands for slice-aggregate-tell-2 : sym (length-take-le _ _ (search rules))
-
 pub tell-requires : goal.tell-requires
 tell-requires c = rw c.in-Part.is tt

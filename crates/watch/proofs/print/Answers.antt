@@ -3,4 +3,3 @@ use lib.Seq.{length-take-le}
 use borrow.Author.Rules.{rules}
 use Rattle.watch.proofs.print.Goals as goal
 
--- TODO no goal stands for slice-aggregate-say-2 : sym (length-take-le _ _ (search rules))
