@@ -6,6 +6,8 @@ use round_words::{
     IDS, LISTED, NUMBERS, ORDER, PARENTS, ROWS, SECOND_NUMBER, SECOND_SIGNATURE, SECOND_TARGET,
     SIZE, THRESHOLD, TIPS, TOTAL, USED, VOTER_COUNT, VOTER_IDS, WEIGHTS,
 };
+use std::io::Result;
+use streams::Outputs;
 
 const NO_BLOCKS: [usize; 4] = [IDS, 0, BLOCK_COUNT, 0];
 
@@ -215,72 +217,77 @@ const VOTE_BESIDE_THE_BASE_NOT_HEARD: [usize; 20] = [
 ];
 
 // A line for a round with several fields changed.
-fn several<'a>(good: &'a [u64; SIZE], name: &'a [u8], sets: &'a [usize]) {
-    say(name);
-    say_sums(damaging::several(good, sets));
+fn several<'a>(
+    to: Outputs,
+    good: &'a [u64; SIZE],
+    name: &'a [u8],
+    sets: &'a [usize],
+) -> Result<()> {
+    say(to, name)?;
+    say_sums(to, damaging::several(good, sets))
 }
 
-pub fn of_opened(good: &[u64; SIZE]) {
+pub fn of_opened(to: Outputs, good: &[u64; SIZE]) -> Result<()> {
     let sets = NO_BLOCKS;
-    several(good, b"no blocks", &sets);
+    several(to, good, b"no blocks", &sets)?;
     let sets = BASE_THAT_IS_NOT_IN_THE_TABLE;
-    several(good, b"a base that is not in the table", &sets);
+    several(to, good, b"a base that is not in the table", &sets)?;
     let sets = VOTER_OF_WEIGHT_0;
-    several(good, b"a voter of weight 0", &sets);
+    several(to, good, b"a voter of weight 0", &sets)?;
     let sets = WEIGHT_OF_NO_VOTER;
-    several(good, b"a weight of no voter", &sets);
+    several(to, good, b"a weight of no voter", &sets)?;
     let sets = NO_VOTERS;
-    several(good, b"no voters", &sets);
+    several(to, good, b"no voters", &sets)
 }
 
-fn of_case_j_first(good: &[u64; SIZE]) {
+fn of_case_j_first(to: Outputs, good: &[u64; SIZE]) -> Result<()> {
     let sets = PARENT_THAT_COMES_LATER;
-    several(good, b"a parent that comes later", &sets);
+    several(to, good, b"a parent that comes later", &sets)?;
     let sets = VOTE_FOR_A_BLOCK_PAST_THE_TABLE;
-    several(good, b"a vote for a block past the table", &sets);
+    several(to, good, b"a vote for a block past the table", &sets)?;
     let sets = NODE_THAT_IS_NOT_LISTED;
-    several(good, b"a node that is not listed", &sets);
+    several(to, good, b"a node that is not listed", &sets)?;
     let sets = HEADS_BY_FALLING_ID;
-    several(good, b"heads by falling id", &sets);
+    several(to, good, b"heads by falling id", &sets)?;
     let sets = HEAD_THAT_IS_MISSING;
-    several(good, b"a head that is missing", &sets);
+    several(to, good, b"a head that is missing", &sets)
 }
 
-fn of_case_j_second(good: &[u64; SIZE]) {
+fn of_case_j_second(to: Outputs, good: &[u64; SIZE]) -> Result<()> {
     let sets = HEAD_THAT_LISTS_OTHERS;
-    several(good, b"a head that lists others", &sets);
+    several(to, good, b"a head that lists others", &sets)?;
     let sets = VOTE_OF_NO_VOTER;
-    several(good, b"a vote of no voter", &sets);
+    several(to, good, b"a vote of no voter", &sets)?;
     let sets = TARGET_WITHOUT_A_NODE;
-    several(good, b"a target without a node", &sets);
+    several(to, good, b"a target without a node", &sets)?;
     let sets = NODE_WITHOUT_A_VOTE;
-    several(good, b"a node without a vote", &sets);
+    several(to, good, b"a node without a vote", &sets)?;
     let sets = ENTRY_THAT_IS_MISSING;
-    several(good, b"an entry that is missing", &sets);
+    several(to, good, b"an entry that is missing", &sets)
 }
 
-fn of_case_j_third(good: &[u64; SIZE]) {
+fn of_case_j_third(to: Outputs, good: &[u64; SIZE]) -> Result<()> {
     let sets = ENTRY_OF_NO_PAIR;
-    several(good, b"an entry of no pair", &sets);
+    several(to, good, b"an entry of no pair", &sets)?;
     let sets = CHILDREN_IN_ANOTHER_ORDER;
-    several(good, b"children in another order", &sets);
+    several(to, good, b"children in another order", &sets)?;
     let sets = HISTORY_IN_ANOTHER_ORDER;
-    several(good, b"history in another order", &sets);
+    several(to, good, b"history in another order", &sets)?;
     let sets = SECOND_PAIR_BEFORE_THE_FIRST;
-    several(good, b"a second pair before the first", &sets);
+    several(to, good, b"a second pair before the first", &sets)?;
     let sets = SECOND_PAIR_EQUAL_TO_THE_FIRST;
-    several(good, b"a second pair equal to the first", &sets);
+    several(to, good, b"a second pair equal to the first", &sets)
 }
 
-pub fn of_many(good: &[u64; SIZE]) {
+pub fn of_many(to: Outputs, good: &[u64; SIZE]) -> Result<()> {
     let sets = VOTE_BESIDE_THE_BASE;
-    several(good, b"a vote beside the base", &sets);
+    several(to, good, b"a vote beside the base", &sets)?;
     let sets = VOTE_BESIDE_THE_BASE_NOT_HEARD;
-    several(good, b"a vote beside the base, not heard", &sets);
+    several(to, good, b"a vote beside the base, not heard", &sets)
 }
 
-pub fn of_case_j(good: &[u64; SIZE]) {
-    of_case_j_first(good);
-    of_case_j_second(good);
-    of_case_j_third(good);
+pub fn of_case_j(to: Outputs, good: &[u64; SIZE]) -> Result<()> {
+    of_case_j_first(to, good)?;
+    of_case_j_second(to, good)?;
+    of_case_j_third(to, good)
 }

@@ -2,6 +2,8 @@
 #![tactic(auto)]
 
 use context::{Phase, Vote, VoteNode};
+use std::io::Result;
+use streams::Outputs;
 use voter_info::Lookup;
 use voter_set::{Answer, Nth, VoterSet};
 
@@ -14,107 +16,112 @@ const IDS: [u32; 65] = [
     50, 51, 52, 53, 54, 55, 56, 57, 58, 59, 60, 61, 62, 63, 64,
 ];
 
-fn say(words: &[u8]) {
-    streams::say(b"numbers: standard output", words);
+fn say(to: Outputs, words: &[u8]) -> Result<()> {
+    streams::say(to, b"numbers: standard output", words)
 }
 
-fn say_number(words: &[u8], n: u64) {
-    say(words);
-    streams::say_number(b"numbers: standard output", n);
+fn say_number(to: Outputs, words: &[u8], n: u64) -> Result<()> {
+    say(to, words)?;
+    streams::say_number(to, b"numbers: standard output", n)
 }
 
 // The threshold of a total.
-fn threshold(total: u64) {
-    say_number(b"total ", total);
-    say_number(b" threshold ", grandpa::threshold(total));
-    say(b"\n");
+fn threshold(to: Outputs, total: u64) -> Result<()> {
+    say_number(to, b"total ", total)?;
+    say_number(to, b" threshold ", grandpa::threshold(total))?;
+    say(to, b"\n")
 }
 
 // What a voter list gives: its threshold and number of voters, or a refusal.
-fn voters(name: &[u8], ids: &[u32], weights: &[u64]) {
-    say(name);
+fn voters(to: Outputs, name: &[u8], ids: &[u32], weights: &[u64]) -> Result<()> {
+    say(to, name)?;
     let made = VoterSet::new(ids, weights);
     let answer = made.answer;
     let set = made.voters;
     match answer {
-        Answer::Refused(n) => say_number(b": refused ", n as u64),
+        Answer::Refused(n) => say_number(to, b": refused ", n as u64)?,
         Answer::Made => {
-            say_number(b": voters ", set.len() as u64);
-            say_number(b" threshold ", set.threshold());
+            say_number(to, b": voters ", set.len() as u64)?;
+            say_number(to, b" threshold ", set.threshold())?;
         }
     }
-    say(b"\n");
+    say(to, b"\n")
 }
 
 // The words of a vote's bit.
-fn bit(name: &[u8], set: VoterSet, id: u32, phase: Phase) {
-    say(name);
+fn bit(to: Outputs, name: &[u8], set: VoterSet, id: u32, phase: Phase) -> Result<()> {
+    say(to, name)?;
     let Lookup::Voter(voter) = set.get(id) else {
-        say(b": no voter\n");
-        return;
+        return say(to, b": no voter\n");
     };
     let node = VoteNode::default().add_vote(Vote::new(voter, phase));
     let bits = node.bits;
-    say_number(b": ", bits[0]);
-    say_number(b" ", bits[1]);
-    say(b"\n");
+    say_number(to, b": ", bits[0])?;
+    say_number(to, b" ", bits[1])?;
+    say(to, b"\n")
 }
 
-fn thresholds() {
-    threshold(0);
-    threshold(1);
-    threshold(2);
-    threshold(3);
-    threshold(4);
-    threshold(5);
-    threshold(6);
-    threshold(7);
-    threshold(10);
-    threshold(MOST);
+fn thresholds(to: Outputs) -> Result<()> {
+    threshold(to, 0)?;
+    threshold(to, 1)?;
+    threshold(to, 2)?;
+    threshold(to, 3)?;
+    threshold(to, 4)?;
+    threshold(to, 5)?;
+    threshold(to, 6)?;
+    threshold(to, 7)?;
+    threshold(to, 10)?;
+    threshold(to, MOST)
 }
 
-fn lists() {
+fn lists(to: Outputs) -> Result<()> {
     let two = [1u32, 2];
     let most = [MOST - 1, 1];
     let more = [MOST, 1];
-    voters(b"sum 18446744073709551615", &two, &most);
-    voters(b"one more", &two, &more);
+    voters(to, b"sum 18446744073709551615", &two, &most)?;
+    voters(to, b"one more", &two, &more)?;
     let many = IDS;
     let ones = [1u64; 65];
-    voters(b"64 ids", &many[..64], &ones[..64]);
-    voters(b"65 ids", &many, &ones);
+    voters(to, b"64 ids", &many[..64], &ones[..64])?;
+    voters(to, b"65 ids", &many, &ones)?;
     let zeros = [0u64; 2];
-    voters(b"no weight", &two, &zeros);
-    voters(b"two ids, 65 weights", &two, &ones);
+    voters(to, b"no weight", &two, &zeros)?;
+    voters(to, b"two ids, 65 weights", &two, &ones)
 }
 
-fn primary() {
+fn primary(to: Outputs) -> Result<()> {
     let four = [1u32, 2, 3, 4];
     let ones = [1u64; 4];
     let made = VoterSet::new(&four, &ones);
     let set = made.voters;
     let Nth::Place(id, voter) = set.nth_mod(7) else {
-        say(b"round 7: no primary\n");
-        return;
+        return say(to, b"round 7: no primary\n");
     };
-    say_number(b"round 7, voters 1 to 4: primary voter ", id as u64);
-    say_number(b" at place ", voter.position() as u64);
-    say(b"\n");
+    say_number(to, b"round 7, voters 1 to 4: primary voter ", id as u64)?;
+    say_number(to, b" at place ", voter.position() as u64)?;
+    say(to, b"\n")
 }
 
-fn places() {
+fn places(to: Outputs) -> Result<()> {
     let many = IDS;
     let ones = [1u64; 64];
     let made = VoterSet::new(&many[..64], &ones);
     let set = made.voters;
-    bit(b"place 0 prevote", set, 0, Phase::Prevote);
-    bit(b"place 32 prevote", set, 32, Phase::Prevote);
-    bit(b"place 63 precommit", set, 63, Phase::Precommit);
+    bit(to, b"place 0 prevote", set, 0, Phase::Prevote)?;
+    bit(to, b"place 32 prevote", set, 32, Phase::Prevote)?;
+    bit(to, b"place 63 precommit", set, 63, Phase::Precommit)
 }
 
-fn main() {
-    thresholds();
-    lists();
-    primary();
-    places();
+fn run(to: Outputs) -> Result<()> {
+    thresholds(to)?;
+    lists(to)?;
+    primary(to)?;
+    places(to)
+}
+
+// Why an output was not written has been said.
+fn main(rt: HostRuntime) {
+    let out = rt.stdout();
+    let error = rt.stderr();
+    let _ = run(Outputs { out, error });
 }

@@ -5,19 +5,21 @@ ghost use Rattle.std.specs.Prelude.{◌≡◌, ◌≤◌, min, length as length_
 
 use feeding::Replay;
 use listing::Written;
+use std::io::{Result, Stdin};
+use streams::{Moved, Outputs};
 
 // Bytes of standard input that were put into a space, unless reading failed.
 #[derive(Clone, Copy)]
 struct Got {
     bytes: usize,
-    failed: bool,
+    moved: Moved,
 }
 
 #[derive(Clone, Copy)]
 struct Piece {
     replay: Replay,
     left: usize,
-    failed: bool,
+    moved: Moved,
 }
 
 // A length, where its four bytes are there.
@@ -25,7 +27,7 @@ struct Piece {
 struct Length {
     length: usize,
     whole: bool,
-    failed: bool,
+    moved: Moved,
 }
 
 // What a list has told so far.
@@ -34,7 +36,7 @@ struct Tally {
     journals: u64,
     equal: u64,
     more: bool,
-    failed: bool,
+    moved: Moved,
 }
 
 fn least(a: usize, b: usize) -> usize
@@ -49,52 +51,49 @@ fn number(bytes: [u8; 4]) -> usize {
 }
 
 // The next bytes of standard input, at most so many.
-fn read(out: &mut [u8], length: usize) -> Got
+fn read(mut input: Stdin, out: &mut [u8], length: usize) -> Got
     ensures { result.bytes ≤ length_of out.new }
 {
     let wanted = least(length, out.len());
-    let moved = streams::read(&mut out[..wanted]);
+    let moved = streams::read(&mut input, &mut out[..wanted]);
     let bytes = least(streams::count(moved, &out[..wanted]), out.len());
-    Got {
-        bytes,
-        failed: streams::failed(moved),
-    }
+    Got { bytes, moved }
 }
 
 // The next piece of a journal of which so many bytes are left.
-fn turn(before: Replay, left: usize, size: usize) -> Piece {
+fn turn(input: Stdin, before: Replay, left: usize, size: usize) -> Piece {
     let mut space = [0u8; 97];
-    let got = read(&mut space, least(left, size));
+    let got = read(input, &mut space, least(left, size));
     let bytes = got.bytes;
     let fed = before.feed(&space[..bytes]);
     let replay = fed.replay;
-    let failed = got.failed;
+    let moved = got.moved;
     if left < bytes {
         return Piece {
             replay,
             left: 0,
-            failed,
+            moved,
         };
     }
     Piece {
         replay,
         left: left - bytes,
-        failed,
+        moved,
     }
 }
 
-fn read_journal(length: usize, size: usize) -> Piece {
+fn read_journal(input: Stdin, length: usize, size: usize) -> Piece {
     let mut piece = Piece {
         replay: Replay::new(),
         left: length,
-        failed: false,
+        moved: Moved::All,
     };
     for _ in 0..length {
-        piece = turn(piece.replay, piece.left, size);
+        piece = turn(input, piece.replay, piece.left, size);
         if piece.left == 0 {
             break;
         }
-        if piece.failed {
+        if streams::failed(piece.moved) {
             break;
         }
     }
@@ -126,56 +125,56 @@ fn lines(replay: Replay, out: &mut [u8; 512]) -> usize {
 }
 
 // What the recorded lines, which are read here, say of a replay.
-fn compared(before: Tally, replay: Replay, length: usize) -> Tally {
+fn compared(input: Stdin, before: Tally, replay: Replay, length: usize) -> Tally {
     let mut recorded = [0u8; 512];
     let mut told = [0u8; 512];
-    let got = read(&mut recorded, length);
+    let got = read(input, &mut recorded, length);
     let size = lines(replay, &mut told);
     let equal = same(&told, size, &recorded, got.bytes);
     Tally {
         journals: next(before.journals, true),
         equal: next(before.equal, equal),
         more: true,
-        failed: got.failed,
+        moved: got.moved,
     }
 }
 
-fn read_length() -> Length {
+fn read_length(input: Stdin) -> Length {
     let mut bytes = [0u8; 4];
-    let got = read(&mut bytes, 4);
+    let got = read(input, &mut bytes, 4);
     Length {
         length: number(bytes),
         whole: got.bytes == 4,
-        failed: got.failed,
+        moved: got.moved,
     }
 }
 
 // A list that is at its end, or was not read on.
-fn over(before: Tally, failed: bool) -> Tally {
+fn over(before: Tally, moved: Moved) -> Tally {
     Tally {
         journals: before.journals,
         equal: before.equal,
         more: false,
-        failed,
+        moved,
     }
 }
 
 // One journal of the list, and its recorded lines.
-fn entry(before: Tally) -> Tally {
-    let journal = read_length();
+fn entry(input: Stdin, before: Tally) -> Tally {
+    let journal = read_length(input);
     if !journal.whole {
-        return over(before, journal.failed);
+        return over(before, journal.moved);
     }
-    let answer = read_length();
+    let answer = read_length(input);
     if !answer.whole {
-        return over(before, answer.failed);
+        return over(before, answer.moved);
     }
     let size = 1 + (before.journals % 97) as usize;
-    let piece = read_journal(journal.length, size);
-    if piece.failed {
-        return over(before, true);
+    let piece = read_journal(input, journal.length, size);
+    if streams::failed(piece.moved) {
+        return over(before, piece.moved);
     }
-    compared(before, piece.replay, answer.length)
+    compared(input, before, piece.replay, answer.length)
 }
 
 fn next(count: u64, more: bool) -> u64 {
@@ -188,36 +187,44 @@ fn next(count: u64, more: bool) -> u64 {
     count + 1
 }
 
-fn entries() -> Tally {
+fn entries(input: Stdin) -> Tally {
     let mut tally = Tally {
         journals: 0,
         equal: 0,
         more: true,
-        failed: false,
+        moved: Moved::All,
     };
     for _ in 0..1000000u64 {
-        tally = entry(tally);
+        tally = entry(input, tally);
         if !tally.more {
             break;
         }
-        if tally.failed {
+        if streams::failed(tally.moved) {
             break;
         }
     }
     tally
 }
 
-fn say_number(n: u64, words: &[u8]) {
-    streams::say_number(b"oracle_list: standard output", n);
-    streams::say(b"oracle_list: standard output", words);
+fn say_number(to: Outputs, n: u64, words: &[u8]) -> Result<()> {
+    streams::say_number(to, b"oracle_list: standard output", n)?;
+    streams::say(to, b"oracle_list: standard output", words)
 }
 
-fn main() {
-    let tally = entries();
-    if tally.failed {
-        streams::unread(b"oracle_list: standard input");
-        return;
+fn run(input: Stdin, to: Outputs) -> Result<()> {
+    let tally = entries(input);
+    let moved = tally.moved;
+    if streams::failed(moved) {
+        streams::unread(to, b"oracle_list: standard input", moved);
+        return Ok(());
     }
-    say_number(tally.journals, b" journals, ");
-    say_number(tally.equal, b" equal\n");
+    say_number(to, tally.journals, b" journals, ")?;
+    say_number(to, tally.equal, b" equal\n")
+}
+
+// Why an output was not written has been said.
+fn main(rt: HostRuntime) {
+    let out = rt.stdout();
+    let error = rt.stderr();
+    let _ = run(rt.stdin(), Outputs { out, error });
 }

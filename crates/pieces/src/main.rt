@@ -2,9 +2,9 @@
 #![tactic(auto)]
 
 use feeding::Replay;
-use libc::STDERR_FILENO;
 use listing::Written;
-use streams::Moved;
+use std::io::{Print, Result, Stdin};
+use streams::{Moved, Outputs};
 
 #[derive(Clone, Copy)]
 struct Piece {
@@ -12,41 +12,41 @@ struct Piece {
     at: usize,
 }
 
-fn put(bytes: &[u8]) {
-    streams::say(b"pieces: standard output", bytes);
+fn put(to: Outputs, bytes: &[u8]) -> Result<()> {
+    streams::say(to, b"pieces: standard output", bytes)
 }
 
-fn print(replay: Replay) {
+fn print(to: Outputs, replay: Replay) -> Result<()> {
     let mut out = [0u8; 512];
     let Written::Bytes(size) = report::print(replay, &mut out) else {
-        return;
+        return Ok(());
     };
     if 512 < size {
-        return;
+        return Ok(());
     }
-    put(&out[..size]);
+    put(to, &out[..size])
 }
 
-fn say(name: &[u8], number: usize) {
-    put(name);
-    streams::say_number(b"pieces: standard output", number as u64);
-    put(b"\n");
+fn say(to: Outputs, name: &[u8], number: usize) -> Result<()> {
+    put(to, name)?;
+    streams::say_number(to, b"pieces: standard output", number as u64)?;
+    put(to, b"\n")
 }
 
 // The first bytes alone.
-fn cut(bytes: &[u8], at: usize) {
+fn cut(to: Outputs, bytes: &[u8], at: usize) -> Result<()> {
     if bytes.len() < at {
-        return;
+        return Ok(());
     }
-    say(b"cut ", at);
-    print(feeding::replayed(&bytes[..at]));
+    say(to, b"cut ", at)?;
+    print(to, feeding::replayed(&bytes[..at]))
 }
 
-fn cuts(bytes: &[u8]) {
+fn cuts(to: Outputs, bytes: &[u8]) -> Result<()> {
     for at in 0..bytes.len() {
-        cut(bytes, at);
+        cut(to, bytes, at)?;
     }
-    cut(bytes, bytes.len());
+    cut(to, bytes, bytes.len())
 }
 
 // The piece at a place, of a size or up to the end.
@@ -81,30 +81,39 @@ fn by_pieces(bytes: &[u8], size: usize) -> Replay {
     replay
 }
 
-fn sizes(bytes: &[u8]) {
+fn sizes(to: Outputs, bytes: &[u8]) -> Result<()> {
     for size in 1..41 {
-        say(b"pieces ", size);
-        print(by_pieces(bytes, size));
+        say(to, b"pieces ", size)?;
+        print(to, by_pieces(bytes, size))?;
     }
+    Ok(())
 }
 
-fn all(bytes: &[u8]) {
-    cuts(bytes);
-    sizes(bytes);
+fn all(to: Outputs, bytes: &[u8]) -> Result<()> {
+    cuts(to, bytes)?;
+    sizes(to, bytes)
 }
 
-fn main() {
+fn run(mut input: Stdin, to: Outputs) -> Result<()> {
     let mut space = io::buffer();
-    let moved = streams::read(&mut space);
+    let moved = streams::read(&mut input, &mut space);
     let got = streams::count(moved, &space);
     match moved {
         Moved::All => {
-            io::write_all(
-                STDERR_FILENO,
-                b"pieces: standard input: more than 4095 bytes\n",
-            );
+            to.error
+                .write_all(b"pieces: standard input: more than 4095 bytes\n")
         }
-        Moved::Part(_) => all(&space[..got]),
-        Moved::Failed => streams::unread(b"pieces: standard input"),
+        Moved::Part(_) => all(to, &space[..got]),
+        Moved::Failed(_) => {
+            streams::unread(to, b"pieces: standard input", moved);
+            Ok(())
+        }
     }
+}
+
+// Why an output was not written has been said.
+fn main(rt: HostRuntime) {
+    let out = rt.stdout();
+    let error = rt.stderr();
+    let _ = run(rt.stdin(), Outputs { out, error });
 }

@@ -5,7 +5,8 @@ ghost use Rattle.std.specs.Prelude.{◌≡◌};
 
 use feeding::Replay;
 use listing::Written;
-use streams::Moved;
+use std::io::{Result, Stdin};
+use streams::{Moved, Outputs};
 
 #[derive(Clone, Copy)]
 struct Piece {
@@ -24,17 +25,17 @@ fn fed(before: Replay, moved: Moved, space: &[u8]) -> Piece
 }
 
 // The next piece of standard input.
-fn turn(before: Replay) -> Piece {
+fn turn(mut input: Stdin, before: Replay) -> Piece {
     let mut space = io::large_buffer();
-    let moved = streams::read(&mut space);
+    let moved = streams::read(&mut input, &mut space);
     fed(before, moved, &space)
 }
 
 // No input has more pieces.
-fn read_all() -> Piece {
+fn read_all(input: Stdin) -> Piece {
     let mut replay = Replay::new();
     for _ in 0..18446744073709551615u64 {
-        let next = turn(replay);
+        let next = turn(input, replay);
         replay = next.replay;
         let moved = next.moved;
         let Moved::All = moved else {
@@ -47,19 +48,26 @@ fn read_all() -> Piece {
     }
 }
 
-fn main() {
+fn run(input: Stdin, to: Outputs) -> Result<()> {
     let mut out = [0u8; 512];
-    let read = read_all();
+    let read = read_all(input);
     let moved = read.moved;
     let Moved::Part(_) = moved else {
-        streams::unread(b"replay: standard input");
-        return;
+        streams::unread(to, b"replay: standard input", moved);
+        return Ok(());
     };
     let Written::Bytes(size) = report::print(read.replay, &mut out) else {
-        return;
+        return Ok(());
     };
     if 512 < size {
-        return;
+        return Ok(());
     }
-    streams::tell(b"replay: standard output", moved, &out[..size]);
+    streams::tell(to, b"replay: standard output", moved, &out[..size])
+}
+
+// Why an output was not written has been said.
+fn main(rt: HostRuntime) {
+    let out = rt.stdout();
+    let error = rt.stderr();
+    let _ = run(rt.stdin(), Outputs { out, error });
 }

@@ -1,12 +1,16 @@
-// Standard input and standard output for the programs: what a call of C answered is told apart, so that no error is taken for an end, and no
+// Standard input and standard output for the programs: what a call answered is told apart, so that no error is taken for an end, and no
 // line is told of an input that was not read to its end.
 #![tactic(auto)]
 
 ghost use Rattle.std.specs.Prelude.{◌≡◌, ◌<◌, min, length};
+ghost use Rattle.std.specs.IoError.{raw_os_error};
 ghost use Rattle.io.specs.Counts.{IsPrefixLen};
-ghost use Rattle.streams.specs.Streams.{Inside, Within, Ended, stepped, gone, counted, lost};
+ghost use Rattle.streams.specs.Streams.{Inside, Within, Ended, interrupted, stepped, gone, counted, lost};
 
-use libc::{EINTR, STDERR_FILENO, STDIN_FILENO, STDOUT_FILENO};
+use std::io::{Cursor, Error, ErrorKind, Print, Read, Result, Stderr, Stdout, Write};
+
+// The number that Linux gives a call which a signal interrupted.
+const EINTR: i32 = 4;
 
 // What one call of read or write did.
 #[derive(Clone, Copy)]
@@ -17,8 +21,8 @@ enum Step {
     Nothing,
     // A signal came before the first byte.
     Again,
-    // The system would not; errno has its reason.
-    Failed,
+    // The system would not, for this reason.
+    Failed(Error),
 }
 
 // What came of all the bytes that were to be read or written.
@@ -28,8 +32,8 @@ pub enum Moved {
     All,
     // So many, and there is no more: of a read, the input ended there.
     Part(usize),
-    // A call failed, for the reason that errno still has; how many bytes were moved before it is not told.
-    Failed,
+    // A call failed, for this reason; how many bytes were moved before it is not told.
+    Failed(Error),
 }
 
 // Whether another call is due, after so many bytes.
@@ -39,27 +43,48 @@ enum Turn {
     Over(Moved),
 }
 
+// Where a program writes what it tells, and where it says why it could not.
+#[derive(Clone, Copy)]
+pub struct Outputs {
+    pub out: Stdout,
+    pub error: Stderr,
+}
+
 fn least(a: usize, b: usize) -> usize
     ensures { result ≡ min a b }
 {
     if a < b { a } else { b }
 }
 
-// What C answered and its errno, for a call that was lent some bytes.
-fn did(got: isize, error: i32, lent: &[u8]) -> Step
-    ensures { result ≡ stepped got error (length lent.now) }
+// Whether a signal interrupted the call.
+fn is_interrupted(why: Error) -> bool
+    ensures { result ≡ interrupted (raw_os_error why) }
 {
-    if got < 0 {
-        if error == EINTR {
-            return Step::Again;
+    match why.raw_os_error() {
+        Some(number) => number == EINTR,
+        None => false,
+    }
+}
+
+// What a call answered that was lent some bytes.
+fn did(got: Result<usize>, lent: &[u8]) -> Step
+    ensures { result ≡ stepped got (length lent.now) }
+{
+    match got {
+        Err(why) => {
+            if is_interrupted(why) {
+                return Step::Again;
+            }
+            Step::Failed(why)
         }
-        return Step::Failed;
+        Ok(answer) => {
+            let count = least(answer, lent.len());
+            if count == 0 {
+                return Step::Nothing;
+            }
+            Step::Bytes(count)
+        }
     }
-    let count = io::count(got, lent);
-    if count == 0 {
-        return Step::Nothing;
-    }
-    Step::Bytes(count)
 }
 
 // After one more call, with so many bytes moved before it.
@@ -77,30 +102,30 @@ fn after(step: Step, done: usize, all: usize) -> Turn
         }
         Step::Nothing => Turn::Over(Moved::Part(done)),
         Step::Again => Turn::On(done),
-        Step::Failed => Turn::Over(Moved::Failed),
+        Step::Failed(why) => Turn::Over(Moved::Failed(why)),
     }
 }
 
-// One read of standard input into a space, from a place on. Nothing is asked of C for no bytes, which it would answer as it does an end.
-fn read_from(space: &mut [u8], from: usize) -> Step
+// One read of an input into a space, from a place on. Nothing is asked for no bytes, which would be answered as an end is.
+fn read_from<R: Read>(input: &mut R, space: &mut [u8], from: usize) -> Step
     requires { from < length space.old }
 {
     let part = &mut space[from..];
-    let got = libc::read(STDIN_FILENO, part);
-    did(got, os::errno(), part)
+    let got = input.read(part);
+    did(got, part)
 }
 
-// One write of some bytes to standard output, from a place on.
-fn write_from(bytes: &[u8], from: usize) -> Step
+// One write of some bytes to an output, from a place on.
+fn write_from<W: Write>(output: &mut W, bytes: &[u8], from: usize) -> Step
     requires { from < length bytes.now }
 {
     let part = &bytes[from..];
-    let got = libc::write(STDOUT_FILENO, part);
-    did(got, os::errno(), part)
+    let got = output.write(part);
+    did(got, part)
 }
 
-// Reads standard input until the space is full, the input ends or a read fails. No run makes more calls than are counted.
-pub fn read(space: &mut [u8]) -> Moved
+// Reads an input until the space is full, the input ends or a read fails. No run makes more calls than are counted.
+pub fn read<R: Read>(input: &mut R, space: &mut [u8]) -> Moved
     ensures { Within result (length space.new) }
 {
     let mut done = 0;
@@ -108,29 +133,29 @@ pub fn read(space: &mut [u8]) -> Moved
         return Moved::All;
     }
     for _ in 0..18446744073709551615u64 {
-        let next = after(read_from(space, done), done, space.len());
+        let next = after(read_from(input, space, done), done, space.len());
         match next {
             Turn::On(more) => done = more,
             Turn::Over(moved) => return moved,
         }
     }
-    Moved::Failed
+    Moved::Failed(Error::from(ErrorKind::TimedOut))
 }
 
-// Writes all of some bytes to standard output, unless a write fails.
-pub fn write(bytes: &[u8]) -> Moved {
+// Writes all of some bytes to an output, unless a write fails.
+pub fn write<W: Write>(output: &mut W, bytes: &[u8]) -> Moved {
     let mut done = 0;
     if bytes.len() == 0 {
         return Moved::All;
     }
     for _ in 0..18446744073709551615u64 {
-        let next = after(write_from(bytes, done), done, bytes.len());
+        let next = after(write_from(output, bytes, done), done, bytes.len());
         match next {
             Turn::On(more) => done = more,
             Turn::Over(moved) => return moved,
         }
     }
-    Moved::Failed
+    Moved::Failed(Error::from(ErrorKind::TimedOut))
 }
 
 // How many bytes of a space hold what was read.
@@ -141,7 +166,7 @@ pub fn count(moved: Moved, space: &[u8]) -> usize
     match moved {
         Moved::All => space.len(),
         Moved::Part(n) => least(n, space.len()),
-        Moved::Failed => 0,
+        Moved::Failed(_) => 0,
     }
 }
 
@@ -152,47 +177,78 @@ pub fn failed(moved: Moved) -> bool
     match moved {
         Moved::All => false,
         Moved::Part(_) => false,
-        Moved::Failed => true,
+        Moved::Failed(_) => true,
     }
 }
 
-// After a write that failed nothing more is written, so that no output has a gap, and the reason is said once.
-fn shut() {
-    libc::close(STDOUT_FILENO);
-    libc::close(STDERR_FILENO);
+// Where the system's own words for an error end: before its number, which stands last and in parentheses.
+fn words_of(text: &[u8]) -> usize
+    ensures { IsPrefixLen result text.now }
+{
+    match text.iter().rposition(|byte| *byte == b'(') {
+        Some(at) => {
+            if at == 0 {
+                return 0;
+            }
+            at - 1
+        }
+        None => text.len(),
+    }
 }
 
-// Writes some bytes to standard output. Where that fails, a line on standard error names the output and has the system's reason.
-pub fn say(output: &[u8], bytes: &[u8]) {
-    match write(bytes) {
-        Moved::All => {}
+// A line on standard error: what failed and the words. Where that fails too, there is nobody to tell.
+fn complain(error: Stderr, what: &[u8], words: &[u8]) {
+    let _ = Print::write_all(&error, what);
+    let _ = Print::write_all(&error, b": ");
+    let _ = Print::write_all(&error, words);
+    let _ = Print::write_all(&error, b"\n");
+}
+
+// The same with the system's reason.
+fn complain_of(error: Stderr, what: &[u8], why: Error) {
+    let mut text = [0u8; 256];
+    let mut at = Cursor::new(&mut text[..]);
+    let _ = write!(at, "{why}");
+    let size = least(at.position() as usize, 256);
+    complain(error, what, &text[..words_of(&text[..size])]);
+}
+
+// Writes some bytes to standard output. Where that fails, a line on standard error names the output and has the system's reason; the
+// caller then writes nothing more, so that no output has a gap and the reason is said once.
+pub fn say(to: Outputs, output: &[u8], bytes: &[u8]) -> Result<()> {
+    let mut out = to.out;
+    match write(&mut out, bytes) {
+        Moved::All => Ok(()),
         Moved::Part(_) => {
-            io::write_all(STDERR_FILENO, output);
-            io::write_all(STDERR_FILENO, b": takes no more\n");
-            shut();
+            complain(to.error, output, b"takes no more");
+            Err(Error::from(ErrorKind::WriteZero))
         }
-        Moved::Failed => {
-            os::fail(output);
-            shut();
+        Moved::Failed(why) => {
+            complain_of(to.error, output, why);
+            Err(why)
         }
     }
 }
 
 // A number's decimal digits, written likewise.
-pub fn say_number(output: &[u8], n: u64) {
+pub fn say_number(to: Outputs, output: &[u8], n: u64) -> Result<()> {
     let mut text = [0u8; 20];
     let size = io::decimal(n, &mut text);
-    say(output, &text[..size]);
+    say(to, output, &text[..size])
 }
 
-// Says why an input was not read, on standard error. To be called before anything else that can fail, since errno has the reason.
-pub fn unread(input: &[u8]) {
-    os::fail(input);
+// Says why an input was not read, on standard error.
+pub fn unread(to: Outputs, input: &[u8], moved: Moved) {
+    match moved {
+        Moved::All => complain(to.error, input, b"does not end"),
+        Moved::Part(_) => {}
+        Moved::Failed(why) => complain_of(to.error, input, why),
+    }
 }
 
 // Writes what an input tells. An input that was not read to its end tells nothing.
-pub fn tell(output: &[u8], input: Moved, bytes: &[u8])
+pub fn tell(to: Outputs, output: &[u8], input: Moved, bytes: &[u8]) -> Result<()>
     requires { Ended input }
 {
-    say(output, bytes);
+    say(to, output, bytes)
 }

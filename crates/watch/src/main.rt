@@ -2,11 +2,12 @@
 // of each record is seen. Of an input that is not read to its end it prints no last lines, so that what it printed is seen to be cut off.
 #![tactic(auto)]
 
-ghost use Rattle.std.specs.Prelude.{◌≡◌};
+ghost use Rattle.std.specs.Prelude.{◌≡◌, IfOk};
 
 use feeding::Replay;
 use listing::Written;
-use streams::Moved;
+use std::io::{Result, Stdin};
+use streams::{Moved, Outputs};
 
 #[derive(Clone, Copy)]
 struct Piece {
@@ -15,23 +16,23 @@ struct Piece {
 }
 
 // The answers of a replay: its lines but for the last, `tail 0`, which has seven bytes.
-fn print(replay: Replay) {
+fn print(to: Outputs, replay: Replay) -> Result<()> {
     let mut out = [0u8; 512];
     let Written::Bytes(size) = report::print(replay, &mut out) else {
-        return;
+        return Ok(());
     };
     if 512 < size {
-        return;
+        return Ok(());
     }
     if size < 7 {
-        return;
+        return Ok(());
     }
     let shown = size - 7;
-    streams::say(b"watch: standard output", &out[..shown]);
+    streams::say(to, b"watch: standard output", &out[..shown])
 }
 
 // A record of a mark that begins with 'P' is a vote; after it no byte is left, so that the last line is `tail 0`.
-fn step(before: Replay, byte: u8) -> Replay {
+fn step(to: Outputs, before: Replay, byte: u8) -> Result<Replay> {
     let rest = before.rest;
     let bytes = rest.bytes;
     let piece = [byte];
@@ -39,66 +40,73 @@ fn step(before: Replay, byte: u8) -> Replay {
     let replay = fed.replay;
     if bytes[0] == b'P' {
         if before.records < replay.records {
-            print(replay);
+            print(to, replay)?;
         }
     }
-    replay
+    Ok(replay)
 }
 
-fn steps(before: Replay, bytes: &[u8]) -> Replay {
+fn steps(to: Outputs, before: Replay, bytes: &[u8]) -> Result<Replay> {
     let mut replay = before;
     for at in 0..bytes.len() {
-        replay = step(replay, bytes[at]);
+        replay = step(to, replay, bytes[at])?;
     }
-    replay
+    Ok(replay)
 }
 
 // One more piece of a journal, as it was read.
-fn stepped(before: Replay, moved: Moved, space: &[u8]) -> Piece
-    ensures { result.moved ≡ moved }
+fn stepped(to: Outputs, before: Replay, moved: Moved, space: &[u8]) -> Result<Piece>
+    ensures { IfOk result (λ piece. piece.moved ≡ moved) }
 {
     let got = streams::count(moved, space);
-    let replay = steps(before, &space[..got]);
-    Piece { replay, moved }
+    let replay = steps(to, before, &space[..got])?;
+    Ok(Piece { replay, moved })
 }
 
 // The next piece of standard input.
-fn turn(before: Replay) -> Piece {
+fn turn(mut input: Stdin, to: Outputs, before: Replay) -> Result<Piece> {
     let mut space = io::buffer();
-    let moved = streams::read(&mut space);
-    stepped(before, moved, &space)
+    let moved = streams::read(&mut input, &mut space);
+    stepped(to, before, moved, &space)
 }
 
 // No input has more pieces.
-fn read_all() -> Piece {
+fn read_all(input: Stdin, to: Outputs) -> Result<Piece> {
     let mut replay = Replay::new();
     for _ in 0..18446744073709551615u64 {
-        let next = turn(replay);
+        let next = turn(input, to, replay)?;
         replay = next.replay;
         let moved = next.moved;
         let Moved::All = moved else {
-            return Piece { replay, moved };
+            return Ok(Piece { replay, moved });
         };
     }
-    Piece {
+    Ok(Piece {
         replay,
         moved: Moved::All,
-    }
+    })
 }
 
-fn main() {
+fn run(input: Stdin, to: Outputs) -> Result<()> {
     let mut out = [0u8; 512];
-    let read = read_all();
+    let read = read_all(input, to)?;
     let moved = read.moved;
     let Moved::Part(_) = moved else {
-        streams::unread(b"watch: standard input");
-        return;
+        streams::unread(to, b"watch: standard input", moved);
+        return Ok(());
     };
     let Written::Bytes(size) = report::print(read.replay, &mut out) else {
-        return;
+        return Ok(());
     };
     if 512 < size {
-        return;
+        return Ok(());
     }
-    streams::tell(b"watch: standard output", moved, &out[..size]);
+    streams::tell(to, b"watch: standard output", moved, &out[..size])
+}
+
+// Why an output was not written has been said.
+fn main(rt: HostRuntime) {
+    let out = rt.stdout();
+    let error = rt.stderr();
+    let _ = run(rt.stdin(), Outputs { out, error });
 }

@@ -1,8 +1,0 @@
-use Prim.Native.Nat.{◌-◌, ◌≤◌}
-use Rattle.watch.proofs.read_all.Given as goal
-
-abbrev pub invariant-loop : goal.invariant-loop
-invariant-loop l = l.counter ≤ 18446744073709551615
-
-abbrev pub decreases-loop : goal.decreases-loop
-decreases-loop l = 18446744073709551615 - l.counter
