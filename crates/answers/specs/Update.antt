@@ -87,7 +87,7 @@ abbrev pub settled : List ℕ → List ℕ → Columns → Question → ℕ → 
 settled parents weights graph q g (At e) = not (eqb e g) || ends_at g (ghost_from parents weights graph q e)
 settled parents weights graph q g Nothing = false
 
--- the same of an estimate that passes: the search is not asked whether its start does. `settled-untested` says so.
+-- the same of an estimate that passes: the search is not asked whether its start does. `settled_untested` says so.
 abbrev pub untested : List ℕ → List ℕ → Graph → Question → ℕ → Found → Bool
 untested parents weights graph q g (At e) = not (eqb e g) || eqb (descend (col parents) graph (passes weights q) e) g
 untested parents weights graph q g Nothing = false

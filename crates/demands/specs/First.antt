@@ -57,7 +57,7 @@ use Rattle.two_views.specs.Views as views
 use Rattle.two_views.specs.One.{One}
 use Rattle.demands.specs.Refusals.{by_done, by_block, by_vote, by_told, by_number, by_whether, by_heard, by_primary, by_state, by_list, by_views}
 
--- the round keeps the shape rules, or breaks one; `is-round` below says which rules they are
+-- the round keeps the shape rules, or breaks one; `is_round` below says which rules they are
 abbrev pub Keeps : Round → Type 0
 Keeps r = T (shaped r)
 

@@ -1,6 +1,6 @@
 -- Document 02, R-3: for two rounds that 16 doesn't refuse, if each has a finalized block and neither block is the other or its ancestor,
 -- the two-view sum exceeds the fault weight. For every pair of states reached by calls, with no premise on equivocators.
--- `Finals-apart` is the sentence up to its last clause, over what the calls tell, and `Makers` the last clause.
+-- `FinalsApart` is the sentence up to its last clause, over what the calls tell, and `Makers` the last clause.
 use Rattle.std.specs.Prelude.{◌≡◌, ℕ, ◌<◌}
 use Rattle.grandpa.specs.Weight.{fault}
 use Rattle.round.specs.declared.Round.{Round}

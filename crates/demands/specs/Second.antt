@@ -2,7 +2,7 @@
 -- equal to the definitions from the GRANDPA paper with the Rust's threshold. The definitions are those of grandpa's Answers; `Second`
 -- holds of every reached round that has a weight. The premise on weight is needed: a set of anyone's making may be empty, then T is 0,
 -- and by the definitions every block has it, while the round, which takes no vote, tells nothing (`Empty`). Refusal 3 makes no such set
--- (`Made-weighs`).
+-- (`MadeWeighs`).
 use Rattle.std.specs.Prelude.{cond, List, ◌≡◌, ◌↔◌, ℕ, ◌≤◌, ◌<◌}
 use Rattle.std.proofs.Math.Option.{Option, none, some}
 use Rattle.grandpa.specs.Weight.{fault}

@@ -70,7 +70,7 @@ estimate_of vs up base pc g =
     cond (leb (threshold (total vs)) (heard vs pc)) (first_of up (possible_at vs up pc) base g) (some g)
 
 -- Completable: heard precommit weight at least T, and the estimate is not g or no child of g that is asked is possible.
--- The children that are asked are `every-child` of the table in the paper, those `with-node` at or below them in the Rust.
+-- The children that are asked are `every_child` of the table in the paper, those `with_node` at or below them in the Rust.
 pub record Completable (vs : Voters) (up : ℕ → ℕ) (base : ℕ) (pc : ℕ → Vote) (ask : ℕ → Bool) (g : ℕ) : Type 0 where
   pub reached : threshold (total vs) ≤ heard vs pc
   pub estimate : ℕ

@@ -14,7 +14,7 @@ abbrev pub possible_at : Voters → (ℕ → ℕ) → (ℕ → Vote) → ℕ →
 possible_at vs up pc b = possible (total vs) (heard vs pc) (equivocators vs pc) (phase_weight vs up pc b)
 
 -- the same question as the Rust asks it: what it holds is worked out once, total - T standing for F, and then asked of
--- each weight. `possible-asked` says that it is the same.
+-- each weight. `possible_asked` says that it is the same.
 abbrev pub asked : ℕ → ℕ → ℕ → ℕ → PossibleToPrecommit
 asked total t c e = record { current = c; additional = total - t - e; remaining = total - c; threshold = t }
 

@@ -1,4 +1,4 @@
--- Where `find-ghost` ends: at or below its start, at a block that passes, of which no child with a vote-node at or below it
+-- Where `find_ghost` ends: at or below its start, at a block that passes, of which no child with a vote-node at or below it
 -- passes. All that is asked of the question is that more bits pass where fewer do.
 use mathlib.Core.Bool.{Bool, true, false, cond, not, ◌&&◌, ◌||◌}
 use mathlib.Core.List.{List, [], ◌∷◌, ◌++◌, append_assoc, append-nil}
@@ -539,7 +539,7 @@ module _ (up ids : ℕ → ℕ) (falls : (k : ℕ) → up k ≤ pred k) (base co
               let c = child_towards up falls b r e.lower d in
               absurd (childless c.0 y.0 c.1 y.1 (below_trans up falls c.0 r y.0 c.2 y.2) (passes_up c.0 r c.2 e.passes))
 
-  -- from a block in the graph `find-ancestor` is the first block towards the base that passes
+  -- from a block in the graph `find_ancestor` is the first block towards the base that passes
   pub ancestor_is : (b y : ℕ) → T (g.used y) → T (below up b y) → find_ancestor up g base ok b ≡ first_of up (λ x. ok (tally up g x)) base b
   unfolding find_ancestor
   ancestor_is b y u l = go (dec_T (g.used b))

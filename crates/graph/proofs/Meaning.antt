@@ -1,4 +1,4 @@
--- With equivocators at most F, where `find-ghost` ends is the definition's GHOST.
+-- With equivocators at most F, where `find_ghost` ends is the definition's GHOST.
 use mathlib.Core.Bool.{Bool, not}
 use mathlib.Core.Path.{◌≡◌, refl, sym, ap, subst}
 use mathlib.Core.Logic.{◌⊎◌, inl, inr}

@@ -19,7 +19,7 @@ counted count base used listed tips =
 abbrev pub others : List Bool → ℕ → List Bool
 others used base = set used base false
 
--- the whole test; `graphed-means` and `means-graphed` say that it passes on the columns that are `Sound` and `Clear`
+-- the whole test; `graphed_means` and `means_graphed` say that it passes on the columns that are `Sound` and `Clear`
 unfoldable pub graphed : List ℕ → List ℕ → ℕ → ℕ → Columns → Bool
 graphed parents ids base count g =
     counted count base g.used g.listed g.tips

@@ -24,7 +24,7 @@ sought f h =
     with_answers h (with_precommit h.answers (phase_ghost (scene f h) Precommit h.heard.precommit h.answers.precommit))
 
 -- what calls on a round make of its frame and of what it holds: votes, blocks that are added, and asking for the precommit-GHOST; a call
--- that refuses leaves all as it was. Today no call changes number, voters or base (`comes-number`, `comes-voters`, `comes-base`).
+-- that refuses leaves all as it was. Today no call changes number, voters or base (`comes_number`, `comes_voters`, `comes_base`).
 pub data Comes (f : Frame) (h : Held) : Frame → Held → Type 0 where
   here : Comes f h f h
   voted : (g : Frame) (i : Held) → Comes f h g i → (phase : Phase) (signer : ℕ) (p : Pair) → Comes f h g (import g phase signer p i).held

@@ -27,11 +27,11 @@ held_from up above b (suc f) node =
 unfoldable pub held : (ℕ → ℕ) → (ℕ → ℕ) → ℕ → ℕ → ℕ
 held up above b node = held_from up above b (suc node) node
 
--- `find_containing_nodes` by the nodes above; `found-is` says that it is `containing`
+-- `find_containing_nodes` by the nodes above; `found_is` says that it is `containing`
 unfoldable pub found : (ℕ → ℕ) → (ℕ → ℕ) → List ℕ → ℕ → List ℕ
 found up above heads b = fold (λ h l. note (held up above b h) l) heads []
 
--- the nodes listed under a node; `listed-is` says that they are its `children`
+-- the nodes listed under a node; `listed_is` says that they are its `children`
 unfoldable pub listed_under : (ℕ → ℕ) → List ℕ → ℕ → List ℕ
 listed_under above order x = keep (λ n. eqb (above n) x) order
 

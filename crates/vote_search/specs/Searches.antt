@@ -19,14 +19,14 @@ use Rattle.vote_search.specs.declared.Tally.{Tally}
 use Rattle.vote_search.specs.declared.Both.{Both}
 
 -- `cumulative_vote`: a node's own bits, else the joined bits of the nodes found. A block that has no node and is on no edge
--- is not in the graph. `tallied-is` says that the bits are `tally`.
+-- is not in the graph. `tallied_is` says that the bits are `tally`.
 unfoldable pub tallied : List ℕ → List Bool → List ℕ → List (List ℕ) → List ℕ → ℕ → ℕ → Tally
 tallied parents used above rows heads tips b =
     let ns = found (col parents) (col above) (front tips heads) b in
     cond (flag used b) (record { inside = true; bits = row rows b })
     (record { inside = not (is_nil ns); bits = join_of (row rows) ns })
 
--- the nodes that follow a block, by the nodes above. `followed-is` says that they are `following`.
+-- the nodes that follow a block, by the nodes above. `followed_is` says that they are `following`.
 unfoldable pub followed : List ℕ → List Bool → List ℕ → List ℕ → ℕ → ℕ → List ℕ
 followed parents used above order listed b =
     keep (under (col parents) b) (listed_under (col above) (front listed order) (nearest (col parents) (flag used) b))
@@ -38,11 +38,11 @@ pub record Stands (parents : List ℕ) (base : ℕ) (g : Columns) (block : ℕ) 
   pub sound : Sound parents ids base count g
   pub in_base : T (below (col parents) base block)
 
--- the graph without its listing, which `find_ancestor` is not lent; `ancestor-unlisted` says that it does not ask for it
+-- the graph without its listing, which `find_ancestor` is not lent; `ancestor_unlisted` says that it does not ask for it
 abbrev pub unlisted : List Bool → List (List ℕ) → List ℕ → ℕ → Graph
 unlisted used rows heads tips = record { used = flag used; bits = row rows; order = []; heads = front tips heads }
 
--- the graph without its heads, which `descend` is not lent; `descend-unheaded` says that it does not ask for them
+-- the graph without its heads, which `descend` is not lent; `descend_unheaded` says that it does not ask for them
 abbrev pub unheaded : List Bool → List (List ℕ) → List ℕ → ℕ → Graph
 unheaded used rows order listed = record { used = flag used; bits = row rows; order = front listed order; heads = [] }
 

@@ -10,7 +10,7 @@ use Rattle.voter_set.specs.declared.VoterSet.{VoterSet}
 abbrev pub good : VoterSet → Bool
 good s = sound s.ids s.weights s.count s.threshold s.total
 
--- what the test says (`good-means` of voter_laws)
+-- what the test says (`good_means` of voter_laws)
 pub record Good (s : VoterSet) : Type 0 where
   pub ids_sized : length s.ids ≡ VOTERS
   pub weights_sized : length s.weights ≡ VOTERS

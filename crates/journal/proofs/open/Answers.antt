@@ -21,6 +21,9 @@ returns-in_default c = (
   (omega arith, omega arith),
 )
 
+pub slice_bounds-from_votes-start : goal.slice_bounds-from_votes-start
+slice_bounds-from_votes-start c = omega (arith, (whole_means _ _ c.requires.1).1)
+
 pub slice_bounds-from_votes-count : goal.slice_bounds-from_votes-count
 slice_bounds-from_votes-count c = omega (arith, (whole_means _ _ c.requires.1).1)
 

@@ -15,6 +15,9 @@ word-requires c = omega (arith, ap length c.fields-fields.ensures ∙ whole_fiel
 pub word-requires-in-Made : goal.word-requires-in-Made
 word-requires-in-Made c = omega (arith, ap length c.fields-fields.ensures ∙ whole_fields _ _ c.requires.1)
 
+pub slice_bounds-from_blocks-start : goal.slice_bounds-from_blocks-start
+slice_bounds-from_blocks-start c = omega (arith, (whole_means _ _ c.requires.1).1)
+
 pub slice_bounds-from_blocks-count : goal.slice_bounds-from_blocks-count
 slice_bounds-from_blocks-count c = omega (arith, (whole_means _ _ c.requires.1).1)
 

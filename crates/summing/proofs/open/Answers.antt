@@ -18,6 +18,9 @@ word-base-requires c = omega (arith, ap length c.fields-fields.ensures ∙ whole
 pub returns-in_default : goal.returns-in_default
 returns-in_default c = op_stop _ _ _ c.requires.0 _ c.requires.1 _ c.fields-fields.ensures _ c.word-base.ensures.0 (sym c.find.ensures ∙ c.in_default.is) _ c.more.ensures _ c.bare.ensures
 
+pub slice_bounds-votes-start : goal.slice_bounds-votes-start
+slice_bounds-votes-start c = omega (arith, (whole_means _ _ c.requires.1).1)
+
 pub slice_bounds-votes-count : goal.slice_bounds-votes-count
 slice_bounds-votes-count c = omega (arith, (whole_means _ _ c.requires.1).1)
 

@@ -15,6 +15,9 @@ word-first-requires c = omega (arith, ap length c.fields-fields.ensures ∙ whol
 pub word-height-requires : goal.word-height-requires
 word-height-requires c = omega (arith, ap length c.fields-fields.ensures ∙ whole_fields _ _ c.requires.1)
 
+pub slice_bounds-grown-start : goal.slice_bounds-grown-start
+slice_bounds-grown-start c = omega (arith, (whole_means _ _ c.requires.1).1)
+
 pub slice_bounds-grown-count : goal.slice_bounds-grown-count
 slice_bounds-grown-count c = omega (arith, (whole_means _ _ c.requires.1).1)
 
