@@ -34,6 +34,11 @@ overflow_sub-part c =
     let s : 0 < c.run-first.result.count = omega (arith, c.if-taken-eq0.false) in
     omega (arith, (across_fits c.args.journal c.args.rest c.join-joint.ensures.1 c.requires.1 0 c.args.piece.now _ (joint_bytes _ _ c.join-joint.ensures.0) c.run-first.result c.run-first.ensures.0 c.run-first.ensures.1.0 c.in-Cut.is s).0)
 
+pub slice_bounds-part-start : goal.slice_bounds-part-start
+slice_bounds-part-start c =
+    let s : 0 < c.run-first.result.count = omega (arith, c.if-taken-eq0.false) in
+    omega (arith, (across_fits c.args.journal c.args.rest c.join-joint.ensures.1 c.requires.1 0 c.args.piece.now _ (joint_bytes _ _ c.join-joint.ensures.0) c.run-first.result c.run-first.ensures.0 c.run-first.ensures.1.0 c.in-Cut.is s).1)
+
 pub slice_bounds-part-count : goal.slice_bounds-part-count
 slice_bounds-part-count c =
     let s : 0 < c.run-first.result.count = omega (arith, c.if-taken-eq0.false) in
