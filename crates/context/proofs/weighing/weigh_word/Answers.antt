@@ -6,7 +6,6 @@ use Rattle.context.proofs.Sums.{word_turn, word_end}
 use borrow.Author.Rules.{rules}
 use Rattle.context.proofs.weighing.weigh_word.Goals as goal
 
-
 pub loop-left-init : goal.loop-left-init
 loop-left-init c = (search rules, search rules, refl)
 
