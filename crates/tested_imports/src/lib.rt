@@ -63,8 +63,7 @@ fn votes(opened: Round, bytes: &[u8]) -> u64 {
 }
 
 // The bytes before `opened` are replayed; the votes after them are imported, and those that are not refused counted.
-#[unsafe(no_mangle)]
-pub extern "C" fn beamtassel_imports(journal: &[u8], opened: usize) -> u64 {
+pub fn beamtassel_imports(journal: &[u8], opened: usize) -> u64 {
     if journal.len() < opened {
         return 0;
     }
