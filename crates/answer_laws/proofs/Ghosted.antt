@@ -1,7 +1,6 @@
 -- The GHOST of a phase: from a start of weight T or more it is found, at or below the start; with equivocators at most F
 -- it is the definition's.
 use mathlib.Core.Bool.{Bool}
-use mathlib.Core.Option.{Option, none, some}
 use mathlib.Core.Path.{◌≡◌, refl, sym, ap, subst, ◌∙◌}
 use mathlib.Core.Logic.{⊎_elim}
 use Prim.Native.Nat.{ℕ, ◌≤◌, ◌<◌}
@@ -25,30 +24,29 @@ use Rattle.graph.specs.Shape.{Targets}
 use Rattle.graph.specs.Ghost.{find_ghost}
 use Rattle.graph.proofs.Ghosts.{ghost_ends, ghost_none}
 use Rattle.graph.proofs.Meaning.{ghost_meant}
-use Rattle.nodes.specs.declared.Found.{Found}
-use Rattle.nodes.specs.declared.Found.TheVariants.{At, Nothing}
 use Rattle.nodes.specs.Nodes.{col, flag, passes}
-use Rattle.nodes.specs.Columns.{view, as_found}
+use Rattle.nodes.specs.Columns.{view}
 use Rattle.vote_search.proofs.Questions.{passes_mono}
 use Rattle.answers.specs.Update.{weighty, start_of, phase_ghost}
 use Rattle.answer_laws.specs.Faithful.{Setting, table, voters, votes, scene_of, heard_in, Faithful, Within, FoundWithin}
 use Rattle.answer_laws.proofs.Weighed.{threshold_is, weighty_is}
 use Rattle.answer_laws.proofs.Searched.{Ends, tabled_in}
+use Rattle.std.specs.Prelude.{Option, Some, None}
 
 module _ (k : Setting) (f : Faithful k) where
   abbrev up : ℕ → ℕ
   up = col k.parents
 
   -- the base and a stored block are in the graph
-  pub start_within : (o : Found) → FoundWithin k o → Within k (start_of o k.base)
-  start_within Nothing w =
+  pub start_within : (o : Option ℕ) → FoundWithin k o → Within k (start_of o k.base)
+  start_within None w =
       record {
         in_base = below_refl up f.tabled.falls k.base;
         node = k.base;
         is_node = f.shape.nodes.base_used;
         under = below_refl up f.tabled.falls k.base;
       }
-  start_within (At b) w = w
+  start_within (Some b) w = w
 
   module _ (phase : Phase) where
     abbrev heavy : ℕ → Bool
@@ -106,7 +104,7 @@ module _ (k : Setting) (f : Faithful k) where
 
     -- with equivocators at most F, the definition's
     pub settles_meant : 0 < total (voters k) → equivocators (voters k) (votes k phase) ≤ fault (total (voters k))
-        → k.set.threshold ≤ heard_in phase k.heard → (b r : ℕ) → Settles b r → ghost_of (voters k) (table k) (votes k phase) ≡ some r
+        → k.set.threshold ≤ heard_in phase k.heard → (b r : ℕ) → Settles b r → ghost_of (voters k) (table k) (votes k phase) ≡ Some r
     settles_meant some_weight few h b r e = go (ghost_of (voters k) (table k) (votes k phase)) (ghost_says (voters k) (table k) (votes k phase))
       where
         meaning : Ghost (voters k) (table k) (votes k phase) r
@@ -115,37 +113,37 @@ module _ (k : Setting) (f : Faithful k) where
             (λ i x l a. f.shape.voted.target_used (bit phase i) x a) r (omega (arith, threshold_is k f, heard_is))
             (tabled_in k f r e.within) e.enough e.childless
 
-        go : (o : Option ℕ) → Says (Ghost (voters k) (table k) (votes k phase)) o → o ≡ some r
-        go none n = absurd (n r meaning)
-        go (some x) p = ap some (ghost_unique (voters k) (table k) f.tabled some_weight (votes k phase) few x r p meaning)
+        go : (o : Option ℕ) → Says (Ghost (voters k) (table k) (votes k phase)) o → o ≡ Some r
+        go None n = absurd (n r meaning)
+        go (Some x) p = ap Some (ghost_unique (voters k) (table k) f.tabled some_weight (votes k phase) few x r p meaning)
 
-    module _ (o : Found) (w : FoundWithin k o) where
+    module _ (o : Option ℕ) (w : FoundWithin k o) where
       abbrev start : ℕ
       start = start_of o k.base
 
       goes : k.set.threshold ≤ heard_in phase k.heard → (r : Option ℕ)
           → find_ghost up (view k.graph) (passes k.set.weights (weighty (scene_of k) phase)) (start_of o k.base) ≡ r
-          → phase_ghost (scene_of k) phase (heard_in phase k.heard) o ≡ as_found r
+          → phase_ghost (scene_of k) phase (heard_in phase k.heard) o ≡ r
       unfolding phase_ghost
-      goes h r e = rw (le-leb k.set.threshold (heard_in phase k.heard) h) (ap as_found e)
+      goes h r e = rw (le-leb k.set.threshold (heard_in phase k.heard) h) e
 
       -- from a start of weight T or more
       pub ghost_goes : k.set.threshold ≤ heard_in phase k.heard
           → T (meant.weighty (voters k) (col k.parents) (votes k phase) (start_of o k.base))
-          → (r : ℕ) × (phase_ghost (scene_of k) phase (heard_in phase k.heard) o ≡ At r) × Settles (start_of o k.base) r
+          → (r : ℕ) × (phase_ghost (scene_of k) phase (heard_in phase k.heard) o ≡ Some r) × Settles (start_of o k.base) r
       ghost_goes h t =
           let b = start_within o w in
           let r = ghost_ends up (col k.ids) f.tabled.falls k.base k.count k.cast (view k.graph) f.shape
           (passes k.set.weights (weighty (scene_of k) phase)) (passes_mono k.set.weights (weighty (scene_of k) phase)) f.small
           start b.in_base (tabled_in k f start b) (subst T (sym (weighty_is k f phase start)) t) in
-          (r.0, goes h (some r.0) r.1, settles start r.0 b r.2)
+          (r.0, goes h (Some r.0) r.1, settles start r.0 b r.2)
 
       -- from a start of less weight
       pub ghost_lost : k.set.threshold ≤ heard_in phase k.heard
           → (T (meant.weighty (voters k) (col k.parents) (votes k phase) (start_of o k.base)) → ⊥)
-          → phase_ghost (scene_of k) phase (heard_in phase k.heard) o ≡ Nothing
+          → phase_ghost (scene_of k) phase (heard_in phase k.heard) o ≡ None
       ghost_lost h t =
-          goes h none (ghost_none up (col k.ids) f.tabled.falls k.base k.count k.cast (view k.graph) f.shape
+          goes h None (ghost_none up (col k.ids) f.tabled.falls k.base k.count k.cast (view k.graph) f.shape
           (passes k.set.weights (weighty (scene_of k) phase)) (passes_mono k.set.weights (weighty (scene_of k) phase)) f.small
           start (not_T (passes k.set.weights (weighty (scene_of k) phase) (tally up (view k.graph) start)) (λ q. t (subst T (weighty_is k f phase start) q))))
 
@@ -153,7 +151,7 @@ module _ (k : Setting) (f : Faithful k) where
       pub ghost_is : 0 < total (voters k) → equivocators (voters k) (votes k phase) ≤ fault (total (voters k))
           → k.set.threshold ≤ heard_in phase k.heard
           → T (meant.weighty (voters k) (col k.parents) (votes k phase) (start_of o k.base))
-          → phase_ghost (scene_of k) phase (heard_in phase k.heard) o ≡ as_found (ghost_of (voters k) (table k) (votes k phase))
+          → phase_ghost (scene_of k) phase (heard_in phase k.heard) o ≡ (ghost_of (voters k) (table k) (votes k phase))
       ghost_is some_weight few h t =
           let r = ghost_goes h t in
-          r.1 ∙ ap as_found (sym (settles_meant some_weight few h start r.0 r.2))
+          r.1 ∙ (sym (settles_meant some_weight few h start r.0 r.2))

@@ -1,5 +1,4 @@
 -- An import of a first vote, and of a second, leaves answers stored that tell the four answers; the GHOST stays or moves down.
-use mathlib.Core.Option.{Option, none, some}
 use mathlib.Core.Path.{◌≡◌}
 use mathlib.Core.Logic.{◌≢◌}
 use Prim.Native.Nat.{ℕ, ◌<◌}
@@ -19,6 +18,7 @@ use Rattle.answer_laws.specs.Faithful.{Setting, votes, scene_of, Faithful}
 use Rattle.answer_laws.specs.Tells.{Tells, Follows, first_vote, second_vote}
 use Rattle.answer_laws.proofs.Imports.{prevote_tells, precommit_tells}
 use Rattle.answer_laws.proofs.Recorded.{other_phase, first_faithful, first_follows, second_faithful, second_follows}
+use Rattle.std.specs.Prelude.{Option, Some, None}
 
 -- the answers stored after an import that made k into n
 abbrev pub ToldNext : Setting → Setting → Phase → Option ℕ → Answers → Type 0
@@ -27,8 +27,8 @@ ToldNext k n phase o a =
 
 module _ (k : Setting) (f : Faithful k) (p : ℕ) (in_set : p < k.set.count) (t : ℕ) (o : Option ℕ) (a : Answers) (tells : Tells k o a) where
   stays : (o : Option ℕ) → Down (col k.parents) o o
-  stays none = tt
-  stays (some g) = below_refl (col k.parents) f.tabled.falls g
+  stays None = tt
+  stays (Some g) = below_refl (col k.parents) f.tabled.falls g
 
   first_told : (phase : Phase) → Faithful (first_vote k phase p t) → Follows k (first_vote k phase p t).graph (first_vote k phase p t).cast
       → ToldNext k (first_vote k phase p t) phase o a

@@ -1,7 +1,6 @@
 -- The steps keep stored blocks in the table and at or below the base.
 use mathlib.Core.Bool.{Bool, not, ◌&&◌}
 use mathlib.Core.List.{List}
-use mathlib.Core.Option.{Option, none, some}
 use mathlib.Core.Path.{sym, subst}
 use Prim.Native.Nat.{ℕ, ◌≤◌, ◌<◌}
 use native.Mathlib.Omega.{arith}
@@ -20,37 +19,36 @@ use Rattle.graph.specs.Graph.{tally}
 use Rattle.graph.specs.Ghost.{is_nil, find_ancestor}
 use Rattle.graph.specs.Shape.{Shape}
 use Rattle.graph.proofs.Ghosts.{ghost_ends, ghost_none}
-use Rattle.nodes.specs.declared.Found.{Found}
-use Rattle.nodes.specs.declared.Found.TheVariants.{At, Nothing}
 use Rattle.nodes.specs.declared.Question.{Question}
 use Rattle.nodes.specs.Nodes.{col, passes, Falls}
-use Rattle.nodes.specs.Columns.{view, as_found}
+use Rattle.nodes.specs.Columns.{view}
 use Rattle.vote_search.proofs.Questions.{passes_mono}
 use Rattle.answers.specs.declared.Answers.{Answers}
 use Rattle.answers.specs.declared.Heard.{Heard}
 use Rattle.answers.specs.Update.{Scene, InBase, weighty, still, start_of, ghost_from, ancestor_from, phase_ghost, with_ghost, waiting, reached, from_ghost, update, told_after}
 use Rattle.answer_laws.specs.Seats.{Seated, AllSeated}
+use Rattle.std.specs.Prelude.{Option, Some, None}
 
 -- what the searches ask of a stored block
-pub seated_in : (parents : List ℕ) (base count : ℕ) (o : Found) → Seated parents base count o → InBase parents base o
-seated_in parents base count Nothing h = tt
-seated_in parents base count (At b) h = h.1
+pub seated_in : (parents : List ℕ) (base count : ℕ) (o : Option ℕ) → Seated parents base count o → InBase parents base o
+seated_in parents base count None h = tt
+seated_in parents base count (Some b) h = h.1
 
 module _ (s : Scene) (ids : List ℕ) (count : ℕ) (cast : ℕ → Vote) (falls : Falls s.parents)
     (shape : Shape (col s.parents) (col ids) s.base count cast (view s.graph)) (small : count ≤ BLOCKS) where
   abbrev up : ℕ → ℕ
   up = col s.parents
 
-  abbrev Seat : Found → Type 0
+  abbrev Seat : Option ℕ → Type 0
   Seat o = Seated s.parents s.base count o
 
   abbrev Seats : Answers → Type 0
   Seats a = AllSeated s.parents s.base count a
 
   -- a search starts in the table, at or below the base
-  start_seated : (o : Found) → Seat o → (start_of o s.base < count) × T (below up s.base (start_of o s.base))
-  start_seated Nothing h = (shape.nodes.tabled s.base shape.nodes.base_used, below_refl up falls s.base)
-  start_seated (At b) h = h
+  start_seated : (o : Option ℕ) → Seat o → (start_of o s.base < count) × T (below up s.base (start_of o s.base))
+  start_seated None h = (shape.nodes.tabled s.base shape.nodes.base_used, below_refl up falls s.base)
+  start_seated (Some b) h = h
 
   ghost_seated : (q : Question) (b : ℕ) → b < count → T (below up s.base b) → Seat (ghost_from s.parents s.weights s.graph q b)
   ghost_seated q b h l = go (dec_T (ok (tally up (view s.graph) b)))
@@ -61,24 +59,24 @@ module _ (s : Scene) (ids : List ℕ) (count : ℕ) (cast : ℕ → Vote) (falls
       go : Dec (T (ok (tally up (view s.graph) b))) → Seat (ghost_from s.parents s.weights s.graph q b)
       go (yes t) =
           let r = ghost_ends up (col ids) falls s.base count cast (view s.graph) shape ok (passes_mono s.weights q) small b l h t in
-          subst (λ (o : Option ℕ). Seat (as_found o)) (sym r.1) (r.2.tabled, below_trans up falls s.base b r.0 l r.2.lower)
+          subst (λ (o : Option ℕ). Seat o) (sym r.1) (r.2.tabled, below_trans up falls s.base b r.0 l r.2.lower)
       go (no t) =
-          subst (λ (o : Option ℕ). Seat (as_found o))
+          subst (λ (o : Option ℕ). Seat o)
           (sym (ghost_none up (col ids) falls s.base count cast (view s.graph) shape ok (passes_mono s.weights q) small b (not_T (ok (tally up (view s.graph) b)) t))) tt
 
   ancestor_seated : (q : Question) (b : ℕ) → b < count → T (below up s.base b) → Seat (ancestor_from s q b)
   unfolding find_ancestor
   ancestor_seated q b h l =
-      by_test (λ (o : Option ℕ). Seat (as_found o)) (not ((view s.graph).used b) && is_nil (containing up (view s.graph).used (view s.graph).heads b)) none
+      by_test (λ (o : Option ℕ). Seat o) (not ((view s.graph).used b) && is_nil (containing up (view s.graph).used (view s.graph).heads b)) None
       (first_of up (λ x. passes s.weights q (tally up (view s.graph) x)) s.base b) (λ t. tt)
       (λ t. go (first_of up (λ x. passes s.weights q (tally up (view s.graph) x)) s.base b) (first_says up falls s.base _ b l))
     where
-      go : (o : Option ℕ) → Says (First up (λ x. passes s.weights q (tally up (view s.graph) x)) s.base b) o → Seat (as_found o)
-      go none r = tt
-      go (some x) r = (omega (arith, below_le up falls x b r.above), r.inside)
+      go : (o : Option ℕ) → Says (First up (λ x. passes s.weights q (tally up (view s.graph) x)) s.base b) o → Seat o
+      go None r = tt
+      go (Some x) r = (omega (arith, below_le up falls x b r.above), r.inside)
 
   -- the GHOST of a phase
-  pub phase_seated : (phase : Phase) (heard : ℕ) (o : Found) → Seated s.parents s.base count o
+  pub phase_seated : (phase : Phase) (heard : ℕ) (o : Option ℕ) → Seated s.parents s.base count o
       → Seated s.parents s.base count (phase_ghost s phase heard o)
   unfolding phase_ghost
   phase_seated phase heard o h =
@@ -97,9 +95,9 @@ module _ (s : Scene) (ids : List ℕ) (count : ℕ) (cast : ℕ → Vote) (falls
       }
   with_seated heard Precommit a h = h
 
-  from_seated : (total c : ℕ) (a : Answers) → Seats a → (o : Found) → Seat o → Seats (from_ghost s total c a o)
-  from_seated total c a h Nothing w = h
-  from_seated total c a h (At g) w =
+  from_seated : (total c : ℕ) (a : Answers) → Seats a → (o : Option ℕ) → Seat o → Seats (from_ghost s total c a o)
+  from_seated total c a h None w = h
+  from_seated total c a h (Some g) w =
       by_test Seats (leb s.threshold c) (reached s total c a g) (waiting a g)
       (λ t. record {
         prevote = h.prevote;

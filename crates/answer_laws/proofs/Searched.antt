@@ -1,6 +1,5 @@
 -- The searches end where the definitions say.
 use mathlib.Core.Bool.{Bool, not, ◌&&◌, ◌||◌}
-use mathlib.Core.Option.{Option, none, some}
 use mathlib.Core.Path.{◌≡◌, refl, sym, ap, subst, fun_ext, ◌∙◌}
 use mathlib.Core.Logic.{◌⊎◌, inl, inr, ⊎_elim}
 use Prim.Native.Nat.{ℕ, ◌≤◌, ◌<◌}
@@ -27,14 +26,14 @@ use Rattle.graph.specs.Graph.{tally}
 use Rattle.graph.specs.Shape.{Targets}
 use Rattle.graph.proofs.Tallies.{lands_target, target_lands}
 use Rattle.graph.proofs.Ghosts.{Ended, ghost_ends, ghost_stays, ancestor_is}
-use Rattle.nodes.specs.declared.Found.TheVariants.{At}
 use Rattle.nodes.specs.declared.Question.{Question}
 use Rattle.nodes.specs.Nodes.{col, flag, passes}
-use Rattle.nodes.specs.Columns.{view, as_found}
+use Rattle.nodes.specs.Columns.{view}
 use Rattle.vote_search.proofs.Questions.{passes_mono}
 use Rattle.answers.specs.Update.{weighty, still, ancestor_from, ghost_from, ends_at, settled}
 use Rattle.answer_laws.specs.Faithful.{Setting, table, voters, votes, scene_of, Faithful, Within}
 use Rattle.answer_laws.proofs.Weighed.{weighty_is, possible_is}
+use Rattle.std.specs.Prelude.{Option, Some, None}
 
 module _ (k : Setting) (f : Faithful k) where
   abbrev up : ℕ → ℕ
@@ -56,18 +55,18 @@ module _ (k : Setting) (f : Faithful k) where
 
   -- the search towards the base, for any question
   ancestor_asked : (q : Question) (ok : ℕ → Bool) → ((b : ℕ) → asks q b ≡ ok b) → (b : ℕ) → Within k b
-      → ancestor_from (scene_of k) q b ≡ as_found (first_of up ok k.base b)
+      → ancestor_from (scene_of k) q b ≡ (first_of up ok k.base b)
   ancestor_asked q ok same b w =
-      ap as_found (ancestor_is up (col k.ids) f.tabled.falls k.base k.count k.cast (view k.graph) f.shape (passes k.set.weights q) (passes_mono k.set.weights q) f.small b w.node w.is_node w.under
+      (ancestor_is up (col k.ids) f.tabled.falls k.base k.count k.cast (view k.graph) f.shape (passes k.set.weights q) (passes_mono k.set.weights q) f.small b w.node w.is_node w.under
       ∙ ap (λ (p : ℕ → Bool). first_of up p k.base b) (fun_ext same))
 
   pub finalized_is : (b : ℕ) → Within k b
-      → ancestor_from (scene_of k) (weighty (scene_of k) Precommit) b ≡ as_found (first_of up (meant.weighty (voters k) up (votes k Precommit)) k.base b)
+      → ancestor_from (scene_of k) (weighty (scene_of k) Precommit) b ≡ (first_of up (meant.weighty (voters k) up (votes k Precommit)) k.base b)
   finalized_is = ancestor_asked (weighty (scene_of k) Precommit) (meant.weighty (voters k) up (votes k Precommit)) (weighty_is k f Precommit)
 
   pub estimate_is : (b : ℕ) → Within k b
       → ancestor_from (scene_of k) (still (scene_of k) k.set.total k.heard.precommit) b
-      ≡ as_found (first_of up (possible_at (voters k) up (votes k Precommit)) k.base b)
+      ≡ (first_of up (possible_at (voters k) up (votes k Precommit)) k.base b)
   estimate_is = ancestor_asked possible_question (possible_at (voters k) up (votes k Precommit)) (possible_is k f)
 
   -- a block asked: a child of g in the table with a node at or below it
@@ -111,7 +110,7 @@ module _ (k : Setting) (f : Faithful k) where
   stays_is g w p =
       let t : T (asks possible_question g) = subst T (sym (possible_is k f g)) p in
       let r = ghost_ends up (col k.ids) f.tabled.falls k.base k.count k.cast (view k.graph) f.shape (passes k.set.weights possible_question) (passes_mono k.set.weights possible_question) f.small g w.in_base (tabled_in g w) t in
-      ap (λ (o : Option ℕ). ends_at g (as_found o)) r.1
+      ap (λ (o : Option ℕ). ends_at g o) r.1
       ∙ same_test (eqb r.0 g) (all k.count (λ c. not (asked_child g c))) (there r.0 r.2) (back r.0 r.2)
     where
       there : (r : ℕ) → Ends possible_question g r → T (eqb r g) → T (all k.count (λ c. not (asked_child g c)))
@@ -137,18 +136,18 @@ module _ (k : Setting) (f : Faithful k) where
   -- completable, once heard precommit weight reaches T
   pub settled_is : (g : ℕ) → Within k g
       → settled k.parents k.set.weights k.graph (still (scene_of k) k.set.total k.heard.precommit) g
-      (as_found (first_of up (possible_at (voters k) up (votes k Precommit)) k.base g))
+      ((first_of up (possible_at (voters k) up (votes k Precommit)) k.base g))
       ≡ settled_at g (all k.count (λ c. not (child up g c && (with_node (voters k) (table k) (votes k Prevote) (votes k Precommit) c && possible_at (voters k) up (votes k Precommit) c))))
       (first_of up (possible_at (voters k) up (votes k Precommit)) k.base g)
   settled_is g w = go (first_of up (possible_at (voters k) up (votes k Precommit)) k.base g) (first_says up f.tabled.falls k.base (possible_at (voters k) up (votes k Precommit)) g w.in_base)
     where
       go : (o : Option ℕ) → Says (First up (possible_at (voters k) up (votes k Precommit)) k.base g) o
-          → settled k.parents k.set.weights k.graph possible_question g (as_found o) ≡ settled_at g (all k.count (λ c. not (asked_child g c))) o
-      go none r = refl
-      go (some e) r = pick (ℕ_discrete e g)
+          → settled k.parents k.set.weights k.graph possible_question g o ≡ settled_at g (all k.count (λ c. not (asked_child g c))) o
+      go None r = refl
+      go (Some e) r = pick (ℕ_discrete e g)
         where
           pick : Dec (e ≡ g)
-              → settled k.parents k.set.weights k.graph possible_question g (At e) ≡ settled_at g (all k.count (λ c. not (asked_child g c))) (some e)
+              → settled k.parents k.set.weights k.graph possible_question g (Some e) ≡ settled_at g (all k.count (λ c. not (asked_child g c))) (Some e)
           pick (yes q) = rw (eq-eqb e g q) (subst (λ (z : ℕ). ends_at g (ghost_from k.parents k.set.weights k.graph possible_question z) ≡ all k.count (λ c. not (asked_child g c))) (sym q)
               (stays_is g w (subst (λ (z : ℕ). T (possible_at (voters k) up (votes k Precommit) z)) q r.passes)))
           pick (no d) = rw (ne_eqb e g d)

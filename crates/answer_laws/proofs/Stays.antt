@@ -2,7 +2,6 @@
 -- at most F these are the definition's, and no import takes back what was told.
 use mathlib.Core.Bool.{false}
 use mathlib.Core.List.{List}
-use mathlib.Core.Option.{Option, none, some}
 use mathlib.Core.Path.{◌≡◌, refl, sym, ap, subst, ◌∙◌}
 use mathlib.Core.Logic.{◌⊎◌, inl, inr}
 use Prim.Native.Nat.{ℕ, ◌≤◌, ◌<◌}
@@ -23,8 +22,6 @@ use Rattle.grandpa.proofs.Answers.{ghost_says, ghost_some, ghost_unique}
 use Rattle.grandpa.proofs.Kept.{told_kept}
 use Rattle.context.specs.declared.Phase.TheVariants.{Prevote, Precommit}
 use Rattle.context.specs.Votes.{bit}
-use Rattle.nodes.specs.declared.Found.{Found}
-use Rattle.nodes.specs.declared.Found.TheVariants.{Nothing}
 use Rattle.nodes.specs.Nodes.{col}
 use Rattle.nodes.specs.Columns.{Columns}
 use Rattle.answers.specs.declared.Answers.{Answers}
@@ -34,6 +31,7 @@ use Rattle.answer_laws.specs.Faithful.{Setting, table, voters, votes, Faithful, 
 use Rattle.answer_laws.specs.Tells.{Heavy, Tells, after, Follows, extended}
 use Rattle.answer_laws.proofs.Searched.{tabled_in}
 use Rattle.answer_laws.proofs.Ghosted.{votes_placed}
+use Rattle.std.specs.Prelude.{Option, Some, None}
 
 -- while equivocators are at most F, blocks that are added do not change the GHOST
 module _ (vs : Voters) (s t : Blocks) (tabled_s : Tabled s) (tabled : Tabled t) (grown : Grown s t) (base : ℕ) (pv : ℕ → Vote)
@@ -78,12 +76,12 @@ module _ (vs : Voters) (s t : Blocks) (tabled_s : Tabled s) (tabled : Tabled t) 
   ghost_same = go (ghost_of vs s pv) (ghost_says vs s pv) (ghost_of vs t pv) (ghost_says vs t pv)
     where
       go : (o : Option ℕ) → Says (Ghost vs s pv) o → (r : Option ℕ) → Says (Ghost vs t pv) r → o ≡ r
-      go none n none m = refl
-      go none n (some x) p = absurd (n x (ghost_back x p))
-      go (some g) p none m =
+      go None n None m = refl
+      go None n (Some x) p = absurd (n x (ghost_back x p))
+      go (Some g) p None m =
           let x = ghost_some vs t pv g p.reached (omega (arith, p.highest.tabled, grown.more)) (subst T (same g) p.highest.passes) in
           absurd (m x.0 x.1)
-      go (some g) p (some x) q = ap some (ghost_unique vs s tabled_s some_weight pv few g x p (ghost_back x q))
+      go (Some g) p (Some x) q = ap Some (ghost_unique vs s tabled_s some_weight pv few g x p (ghost_back x q))
 
 -- a round just opened tells nothing
 module _ (k : Setting) (quiet : (j : ℕ) → k.cast j ≡ silent) (some_weight : 0 < total (voters k)) where
@@ -92,19 +90,19 @@ module _ (k : Setting) (quiet : (j : ℕ) → k.cast j ≡ silent) (some_weight 
       weigh_none k.set.count (voters k).weight (λ i. spoke (votes k Prevote i))
       (λ i h s. subst (λ (v : Vote). T (spoke v)) (quiet (bit Prevote i)) s)
 
-  no_ghost : none ≡ ghost_of (voters k) (table k) (votes k Prevote)
+  no_ghost : None ≡ ghost_of (voters k) (table k) (votes k Prevote)
   unfolding ghost_of
   no_ghost = rw (lt-leb (threshold (total (voters k))) (heard (voters k) (votes k Prevote)) (omega (arith, unheard)))
 
-  pub opened_tells : (p : Found)
-      → Tells k none (record { prevote = Nothing; precommit = p; finalized = Nothing; estimate = Nothing; completable = false })
+  pub opened_tells : (p : Option ℕ)
+      → Tells k None (record { prevote = None; precommit = p; finalized = None; estimate = None; completable = false })
   unfolding told_from
   opened_tells p =
       record { within = tt; heavy = tt; found = λ h. absurd (omega (arith, unheard)); meant = λ h few. no_ghost; told = refl }
 
 module _ (k : Setting) (o : Option ℕ) (a : Answers) (t : Tells k o a) where
   -- the precommit-GHOST is stored beside the answers
-  pub precommit_beside : (g : Found) → Tells k o (with_precommit a g)
+  pub precommit_beside : (g : Option ℕ) → Tells k o (with_precommit a g)
   precommit_beside g =
       record {
         within = t.within;
@@ -123,8 +121,8 @@ module _ (k : Setting) (o : Option ℕ) (a : Answers) (t : Tells k o a) where
 
 -- a stored GHOST is in the table, at or below the base
 pub within_stored : (k : Setting) → Faithful k → (o : Option ℕ) → AllWithin k o → Stored (table k) k.base o
-within_stored k f none w = tt
-within_stored k f (some g) w = (tabled_in k f g w, w.in_base)
+within_stored k f None w = tt
+within_stored k f (Some g) w = (tabled_in k f g w, w.in_base)
 
 -- nothing told is taken back by an import
 pub import_kept : (k : Setting) → Faithful k → (graph : Columns) (equivocations : List ℕ) (heard : Heard) (cast : ℕ → Vote)
@@ -150,8 +148,8 @@ module _ (k : Setting) (f : Faithful k) (parents ids numbers : List ℕ) (count 
   below_more a b h l = subst T (below_same k.count (col k.parents) (col parents) f.tabled.falls grown.same_up a b h) l
 
   within_more : (o : Option ℕ) → AllWithin k o → AllWithin more o
-  within_more none w = tt
-  within_more (some g) w =
+  within_more None w = tt
+  within_more (Some g) w =
       record {
         in_base = below_more k.base g (tabled_in k f g w) w.in_base;
         node = w.node;
@@ -160,8 +158,8 @@ module _ (k : Setting) (f : Faithful k) (parents ids numbers : List ℕ) (count 
       }
 
   heavy_more : (o : Option ℕ) → Heavy k o → Heavy more o
-  heavy_more none w = tt
-  heavy_more (some g) w =
+  heavy_more None w = tt
+  heavy_more (Some g) w =
       subst (λ (n : ℕ). T (leb (threshold (total (voters k))) n))
       (weight_same (voters k) (table k) (table more) f.tabled.falls grown k.base (votes k Prevote) (votes_placed k f Prevote) g) w
 

@@ -1,7 +1,6 @@
 -- What the laws suppose of a round: that its columns tell what is recorded. Document 01, "Shape rules": total and T as
 -- above; heard weights, node bits and equivocator bits as the recorded votes say.
-use Rattle.std.specs.Prelude.{false, List, ◌≡◌, ℕ, ◌≤◌, ◌<◌, T, get_or, length}
-use Rattle.std.proofs.Math.Option.{Option, none, some}
+use Rattle.std.specs.Prelude.{false, List, ◌≡◌, ℕ, ◌≤◌, ◌<◌, T, get_or, length, Option, Some, None}
 use Rattle.sizes.specs.Sizes.{WORDS, BLOCKS}
 use Rattle.weights.specs.Weights.{most}
 use Rattle.grandpa.specs.Tree.{Blocks, Tabled, below}
@@ -14,10 +13,8 @@ use Rattle.context.specs.declared.Phase.{Phase}
 use Rattle.context.specs.declared.Phase.TheVariants.{Prevote, Precommit}
 use Rattle.context.specs.Votes.{bit}
 use Rattle.graph.specs.Shape.{Shape, UsedOnly}
-use Rattle.nodes.specs.declared.Found.{Found}
-use Rattle.nodes.specs.declared.Found.TheVariants.{At, Nothing}
 use Rattle.nodes.specs.Nodes.{col, flag}
-use Rattle.nodes.specs.Columns.{Columns, view, as_found}
+use Rattle.nodes.specs.Columns.{Columns, view}
 use Rattle.answers.specs.declared.Answers.{Answers}
 use Rattle.answers.specs.declared.Heard.{Heard}
 use Rattle.answers.specs.Update.{Scene, scene}
@@ -73,26 +70,26 @@ pub record Within (k : Setting) (b : ℕ) : Type 0 where
   pub under : T (below (col k.parents) b node)
 
 abbrev pub AllWithin : Setting → Option ℕ → Type 0
-AllWithin k none = Unit {0}
-AllWithin k (some g) = Within k g
+AllWithin k None = Unit {0}
+AllWithin k (Some g) = Within k g
 
-abbrev pub FoundWithin : Setting → Found → Type 0
-FoundWithin k Nothing = Unit {0}
-FoundWithin k (At b) = Within k b
+abbrev pub FoundWithin : Setting → Option ℕ → Type 0
+FoundWithin k None = Unit {0}
+FoundWithin k (Some b) = Within k b
 
 -- stored beside the prevote-GHOST o before it can be told: nothing
 pub record Untold (k : Setting) (o : Option ℕ) (a : Answers) : Type 0 where
-  pub ghost_is : a.prevote ≡ as_found o
-  pub early : k.heard.precommit < k.set.threshold → (a.finalized ≡ Nothing) × (a.completable ≡ false)
-  pub before : o ≡ none → (a.finalized ≡ Nothing) × (a.estimate ≡ Nothing) × (a.completable ≡ false)
+  pub ghost_is : a.prevote ≡ o
+  pub early : k.heard.precommit < k.set.threshold → (a.finalized ≡ None) × (a.completable ≡ false)
+  pub before : o ≡ None → (a.finalized ≡ None) × (a.estimate ≡ None) × (a.completable ≡ false)
 
 -- the answers, the stored precommit-GHOST beside them
-abbrev pub stored : Found → Told → Answers
+abbrev pub stored : Option ℕ → Told → Answers
 stored precommit x =
     record {
-      prevote = as_found x.ghost;
+      prevote = x.ghost;
       precommit = precommit;
-      finalized = as_found x.finalized;
-      estimate = as_found x.estimate;
+      finalized = x.finalized;
+      estimate = x.estimate;
       completable = x.completable;
     }

@@ -1,6 +1,5 @@
 -- Document 01, "The four answers": what is stored in a state reached by calls, and what an import changes.
-use Rattle.std.specs.Prelude.{cond, List, ◌≡◌, ◌≢◌, ℕ, ◌+◌, ◌≤◌, ◌<◌, T, eqb, get_or}
-use Rattle.std.proofs.Math.Option.{Option, none, some}
+use Rattle.std.specs.Prelude.{cond, List, ◌≡◌, ◌≢◌, ℕ, ◌+◌, ◌≤◌, ◌<◌, T, eqb, get_or, Option, Some, None}
 use Rattle.grandpa.specs.Weight.{fault, threshold}
 use Rattle.grandpa.specs.Vote.{Vote, twice, total, heard, equivocators, weighty}
 use Rattle.grandpa.specs.Answers.{ghost_of, told_from}
@@ -20,15 +19,15 @@ use Rattle.answer_laws.specs.Faithful.{Setting, table, voters, votes, AllWithin,
 
 -- prevote weight T or more
 abbrev pub Heavy : Setting → Option ℕ → Type 0
-Heavy k none = Unit {0}
-Heavy k (some g) = T (weighty (voters k) (col k.parents) (votes k Prevote) g)
+Heavy k None = Unit {0}
+Heavy k (Some g) = T (weighty (voters k) (col k.parents) (votes k Prevote) g)
 
 -- the four answers for a prevote-GHOST o, which there is once heard prevote weight reaches T, and which is the definition's
 -- while prevote equivocators are at most F
 pub record Tells (k : Setting) (o : Option ℕ) (a : Answers) : Type 0 where
   pub within : AllWithin k o
   pub heavy : Heavy k o
-  pub found : threshold (total (voters k)) ≤ heard (voters k) (votes k Prevote) → o ≢ none
+  pub found : threshold (total (voters k)) ≤ heard (voters k) (votes k Prevote) → o ≢ None
   pub meant : 0 < total (voters k) → equivocators (voters k) (votes k Prevote) ≤ fault (total (voters k))
       → o ≡ ghost_of (voters k) (table k) (votes k Prevote)
   pub told : a ≡ stored a.precommit (told_from (voters k) (table k) k.base (votes k Prevote) (votes k Precommit) o)

@@ -7,21 +7,20 @@ ghost use Rattle.answer_shape.specs.Stored.{stored, all_stored, weighed};
 
 use answers::{Answers, Heard};
 use context::Phase;
-use nodes::Found;
 use sizes::{BLOCKS, VOTERS, WORDS};
 
-fn is_stored(parents: &[u8; BLOCKS], count: usize, base: u8, block: Found) -> bool
+fn is_stored(parents: &[u8; BLOCKS], count: usize, base: u8, block: Option<u8>) -> bool
     requires { Falls parents.now }
     ensures { result ≡ stored parents.now count base block }
 {
     match block {
-        Found::At(place) => {
+        Some(place) => {
             if count <= climbs::wide(place) {
                 return false;
             }
             climbs::reaches(parents, base, place)
         }
-        Found::Nothing => true,
+        None => true,
     }
 }
 

@@ -1,6 +1,6 @@
 -- `update` of round.rs and its two GHOSTs, as steps. Document 01, "How a vote is taken": the prevote-GHOST is worked out again in a
 -- prevote import only, starting from the stored one; "The four answers": `precommit_ghost` keeps its own stored block.
-use Rattle.std.specs.Prelude.{Bool, true, false, cond, not, ◌||◌, List, ℕ, T, eqb, leb}
+use Rattle.std.specs.Prelude.{Bool, true, false, cond, not, ◌||◌, List, ℕ, T, eqb, leb, Option, Some, None}
 use Rattle.grandpa.specs.Tree.{below}
 use Rattle.grandpa.specs.Possible.{asked}
 use Rattle.context.specs.declared.Phase.{Phase}
@@ -8,12 +8,10 @@ use Rattle.context.specs.declared.Phase.TheVariants.{Prevote, Precommit}
 use Rattle.context.specs.Votes.{voted, weight_of}
 use Rattle.graph.specs.Graph.{Graph}
 use Rattle.graph.specs.Ghost.{find_ancestor, descend, find_ghost}
-use Rattle.nodes.specs.declared.Found.{Found}
-use Rattle.nodes.specs.declared.Found.TheVariants.{At, Nothing}
 use Rattle.nodes.specs.declared.Condition.TheVariants.{AtLeast, Possible}
 use Rattle.nodes.specs.declared.Question.{Question}
 use Rattle.nodes.specs.Nodes.{col, passes}
-use Rattle.nodes.specs.Columns.{Columns, Sound, view, as_found}
+use Rattle.nodes.specs.Columns.{Columns, Sound, view}
 use Rattle.answers.specs.declared.Answers.{Answers}
 use Rattle.answers.specs.declared.Heard.{Heard}
 
@@ -22,7 +20,7 @@ abbrev pub no_heard : Heard
 no_heard = record { prevote = 0; precommit = 0 }
 
 abbrev pub no_answers : Answers
-no_answers = record { prevote = Nothing; precommit = Nothing; finalized = Nothing; estimate = Nothing; completable = false }
+no_answers = record { prevote = None; precommit = None; finalized = None; estimate = None; completable = false }
 
 -- w is heard in a phase
 abbrev pub heard_as : Phase → ℕ → Heard → Heard
@@ -50,26 +48,26 @@ still s total c =
       equivocations = s.equivocations;
     }
 
-abbrev pub ghost_from : List ℕ → List ℕ → Columns → Question → ℕ → Found
-ghost_from parents weights graph q b = as_found (find_ghost (col parents) (view graph) (passes weights q) b)
+abbrev pub ghost_from : List ℕ → List ℕ → Columns → Question → ℕ → Option ℕ
+ghost_from parents weights graph q b = (find_ghost (col parents) (view graph) (passes weights q) b)
 
-abbrev pub ancestor_from : Scene → Question → ℕ → Found
-ancestor_from s q b = as_found (find_ancestor (col s.parents) (view s.graph) s.base (passes s.weights q) b)
+abbrev pub ancestor_from : Scene → Question → ℕ → Option ℕ
+ancestor_from s q b = (find_ancestor (col s.parents) (view s.graph) s.base (passes s.weights q) b)
 
-abbrev pub start_of : Found → ℕ → ℕ
-start_of (At b) base = b
-start_of Nothing base = base
+abbrev pub start_of : Option ℕ → ℕ → ℕ
+start_of (Some b) base = b
+start_of None base = base
 
 -- the GHOST of a phase: from the stored one, or the base, once heard weight reaches T
-unfoldable pub phase_ghost : Scene → Phase → ℕ → Found → Found
+unfoldable pub phase_ghost : Scene → Phase → ℕ → Option ℕ → Option ℕ
 phase_ghost s phase heard stored =
     cond (leb s.threshold heard) (ghost_from s.parents s.weights s.graph (weighty s phase) (start_of stored s.base)) stored
 
-abbrev pub with_prevote : Answers → Found → Answers
+abbrev pub with_prevote : Answers → Option ℕ → Answers
 with_prevote a g =
     record { prevote = g; precommit = a.precommit; finalized = a.finalized; estimate = a.estimate; completable = a.completable }
 
-abbrev pub with_precommit : Answers → Found → Answers
+abbrev pub with_precommit : Answers → Option ℕ → Answers
 with_precommit a g =
     record { prevote = a.prevote; precommit = g; finalized = a.finalized; estimate = a.estimate; completable = a.completable }
 
@@ -79,23 +77,23 @@ with_ghost s heard Prevote a = with_prevote a (phase_ghost s Prevote heard.prevo
 with_ghost s heard Precommit a = a
 
 -- nothing possible strictly below g: the estimate is not g, or the search from g ends there
-abbrev pub ends_at : ℕ → Found → Bool
-ends_at g (At x) = eqb x g
-ends_at g Nothing = true
+abbrev pub ends_at : ℕ → Option ℕ → Bool
+ends_at g (Some x) = eqb x g
+ends_at g None = true
 
-abbrev pub settled : List ℕ → List ℕ → Columns → Question → ℕ → Found → Bool
-settled parents weights graph q g (At e) = not (eqb e g) || ends_at g (ghost_from parents weights graph q e)
-settled parents weights graph q g Nothing = false
+abbrev pub settled : List ℕ → List ℕ → Columns → Question → ℕ → Option ℕ → Bool
+settled parents weights graph q g (Some e) = not (eqb e g) || ends_at g (ghost_from parents weights graph q e)
+settled parents weights graph q g None = false
 
 -- the same of an estimate that passes: the search is not asked whether its start does. `settled_untested` says so.
-abbrev pub untested : List ℕ → List ℕ → Graph → Question → ℕ → Found → Bool
-untested parents weights graph q g (At e) = not (eqb e g) || eqb (descend (col parents) graph (passes weights q) e) g
-untested parents weights graph q g Nothing = false
+abbrev pub untested : List ℕ → List ℕ → Graph → Question → ℕ → Option ℕ → Bool
+untested parents weights graph q g (Some e) = not (eqb e g) || eqb (descend (col parents) graph (passes weights q) e) g
+untested parents weights graph q g None = false
 
 -- heard precommit weight below T: the estimate is g
 abbrev pub waiting : Answers → ℕ → Answers
 waiting a g =
-    record { prevote = a.prevote; precommit = a.precommit; finalized = a.finalized; estimate = At g; completable = a.completable }
+    record { prevote = a.prevote; precommit = a.precommit; finalized = a.finalized; estimate = Some g; completable = a.completable }
 
 abbrev pub reached : Scene → ℕ → ℕ → Answers → ℕ → Answers
 reached s total c a g =
@@ -108,9 +106,9 @@ reached s total c a g =
       completable = settled s.parents s.weights s.graph (still s total c) g e;
     }
 
-abbrev pub from_ghost : Scene → ℕ → ℕ → Answers → Found → Answers
-from_ghost s total c a Nothing = a
-from_ghost s total c a (At g) = cond (leb s.threshold c) (reached s total c a g) (waiting a g)
+abbrev pub from_ghost : Scene → ℕ → ℕ → Answers → Option ℕ → Answers
+from_ghost s total c a None = a
+from_ghost s total c a (Some g) = cond (leb s.threshold c) (reached s total c a g) (waiting a g)
 
 -- `update`, from the stored prevote-GHOST
 unfoldable pub update : Scene → ℕ → Heard → Answers → Answers
@@ -122,9 +120,9 @@ abbrev pub told_after : Scene → ℕ → Heard → Phase → Answers → Answer
 told_after s total heard phase a = update s total heard (with_ghost s heard phase a)
 
 -- a stored block lies at or below the base
-abbrev pub InBase : List ℕ → ℕ → Found → Type 0
-InBase parents base Nothing = Unit {0}
-InBase parents base (At b) = T (below (col parents) base b)
+abbrev pub InBase : List ℕ → ℕ → Option ℕ → Type 0
+InBase parents base None = Unit {0}
+InBase parents base (Some b) = T (below (col parents) base b)
 
 -- columns that keep the shape rules of a vote graph, on some table
 pub record Grounded (parents : List ℕ) (base : ℕ) (graph : Columns) : Type 0 where

@@ -9,17 +9,17 @@ ghost use Rattle.vote_search.specs.Searches.{unheaded};
 
 use context::Phase;
 use grandpa::PossibleToPrecommit;
-use nodes::{Condition, Found, Question};
+use nodes::{Condition, Question};
 use sizes::{BLOCKS, VOTERS, WORDS};
 
 // The stored blocks by place: the Rust's `prevote_ghost` and `precommit_ghost`, `finalized`, `estimate`; and
 // `completable`.
 #[derive(Clone, Copy)]
 pub struct Answers {
-    pub prevote: Found,
-    pub precommit: Found,
-    pub finalized: Found,
-    pub estimate: Found,
+    pub prevote: Option<u8>,
+    pub precommit: Option<u8>,
+    pub finalized: Option<u8>,
+    pub estimate: Option<u8>,
     pub completable: bool,
 }
 
@@ -34,10 +34,10 @@ pub fn no_answers() -> Answers
     ensures { result ≡ no_answers }
 {
     Answers {
-        prevote: Found::Nothing,
-        precommit: Found::Nothing,
-        finalized: Found::Nothing,
-        estimate: Found::Nothing,
+        prevote: None,
+        precommit: None,
+        finalized: None,
+        estimate: None,
         completable: false,
     }
 }
@@ -51,12 +51,12 @@ pub fn no_heard() -> Heard
     }
 }
 
-fn start_of(stored: Found, base: u8) -> u8
+fn start_of(stored: Option<u8>, base: u8) -> u8
     ensures { result ≡ start_of stored base }
 {
     match stored {
-        Found::At(block) => block,
-        Found::Nothing => base,
+        Some(block) => block,
+        None => base,
     }
 }
 
@@ -76,8 +76,8 @@ pub fn phase_ghost<'a>(
     equivocations: [u64; WORDS],
     phase: Phase,
     heard: u64,
-    stored: Found,
-) -> Found
+    stored: Option<u8>,
+) -> Option<u8>
     requires { (Grounded parents.now base (graph_at given used above rows order listed heads tips)) × InBase parents.now base stored }
     ensures { result ≡ phase_ghost (scene parents.now base weights.now threshold (graph_at before used above rows order listed heads tips) equivocations) phase heard stored }
 {
@@ -163,13 +163,13 @@ fn is_completable<'a>(
     weights: &'a [u64; VOTERS],
     possible: Question,
     g: u8,
-    estimate: Found,
+    estimate: Option<u8>,
 ) -> bool
     requires { (heads : List ℕ) × (tips : ℕ) × (base : ℕ)
         × (Grounded parents.now base (graph_at plain used.now above.now rows.now order.now listed heads tips)) × InBase parents.now base estimate }
     ensures { result ≡ untested parents.now weights.now (unheaded used.now rows.now order.now listed) possible g estimate }
 {
-    let Found::At(block) = estimate else {
+    let Some(block) = estimate else {
         return false;
     };
     if block != g {
@@ -207,7 +207,7 @@ pub fn update<'a>(
     }
     let prevote = answers.prevote;
     let precommit = answers.precommit;
-    let Found::At(g) = prevote else {
+    let Some(g) = prevote else {
         return answers;
     };
     if heard.precommit < threshold {
@@ -216,7 +216,7 @@ pub fn update<'a>(
             prevote,
             precommit,
             finalized,
-            estimate: Found::At(g),
+            estimate: Some(g),
             completable: answers.completable,
         };
     }

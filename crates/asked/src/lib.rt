@@ -3,15 +3,13 @@
 // This serves the program `damaged`, which is judged by its stored output: the functions are proved safe and ending, and promise no more.
 #![tactic(auto)]
 
-use blocks::Answer;
 use context::Phase;
 use judging::ImportResult;
-use listing::Written;
-use round::{Answered, Done, Number, Participation, Primary, Round, Told, Whether};
+use refusals::Refusal;
+use round::Round;
 use round_words::SIZE;
 use sizes::HISTORY;
 use tracker::Pair;
-use two_views::Views;
 
 // How many calls on a round there are beside `new`, with `two_views` on either side.
 pub const CALLS: u64 = 26;
@@ -31,88 +29,11 @@ pub struct Asked {
     pub unmade: u64,
 }
 
-fn is_nine(n: u8) -> u64 {
-    if n == 9 {
-        return 1;
-    }
-    0
-}
-
-fn of_done(answer: Done) -> u64 {
+fn is_nine<A: Drop>(answer: Result<A, Refusal>) -> u64 {
     match answer {
-        Done::Yes => 0,
-        Done::Refused(n) => is_nine(n),
+        Ok(_) => 0,
+        Err(refusal) => u64::from(refusal == Refusal::Misshapen),
     }
-}
-
-fn of_grown(answer: Answer) -> u64 {
-    match answer {
-        Answer::Placed(place) => 0,
-        Answer::Refused(n) => is_nine(n),
-    }
-}
-
-fn of_import(answer: ImportResult) -> u64 {
-    let ImportResult::Refused(n) = answer else {
-        return 0;
-    };
-    is_nine(n)
-}
-
-fn of_told(answer: Told) -> u64 {
-    let Told::Refused(n) = answer else {
-        return 0;
-    };
-    is_nine(n)
-}
-
-fn of_number(answer: Number) -> u64 {
-    let Number::Refused(n) = answer else {
-        return 0;
-    };
-    is_nine(n)
-}
-
-fn of_whether(answer: Whether) -> u64 {
-    let Whether::Refused(n) = answer else {
-        return 0;
-    };
-    is_nine(n)
-}
-
-fn of_participation(answer: Participation) -> u64 {
-    let Participation::Refused(n) = answer else {
-        return 0;
-    };
-    is_nine(n)
-}
-
-fn of_primary(answer: Primary) -> u64 {
-    let Primary::Refused(n) = answer else {
-        return 0;
-    };
-    is_nine(n)
-}
-
-fn of_state(answer: Answered) -> u64 {
-    let Answered::Refused(n) = answer else {
-        return 0;
-    };
-    is_nine(n)
-}
-
-fn of_written(answer: Written) -> u64 {
-    let Written::Refused(n) = answer else {
-        return 0;
-    };
-    is_nine(n)
-}
-
-fn of_views(answer: Views) -> u64 {
-    let Views::Refused(n) = answer else {
-        return 0;
-    };
-    is_nine(n)
 }
 
 // `is_round` says no where the others say 9.
@@ -130,37 +51,35 @@ pub fn plus(a: u64, b: u64) -> u64 {
 
 fn of_numbers(round: Round) -> u64 {
     let indices = plus(
-        of_number(round.prevoted_index()),
-        of_number(round.precommitted_index()),
+        is_nine(round.prevoted_index()),
+        is_nine(round.precommitted_index()),
     );
     plus(
         indices,
-        plus(of_number(round.number()), of_number(round.threshold())),
+        plus(is_nine(round.number()), is_nine(round.threshold())),
     )
 }
 
 fn of_blocks(round: Round) -> u64 {
-    let told = plus(of_told(round.estimate()), of_told(round.finalized()));
-    let told = plus(told, of_told(round.base()));
+    let told = plus(is_nine(round.estimate()), is_nine(round.finalized()));
+    let told = plus(told, is_nine(round.base()));
     plus(
         told,
-        plus(of_whether(round.completable()), of_state(round.state())),
+        plus(is_nine(round.completable()), is_nine(round.state())),
     )
 }
 
 fn of_voters(round: Round) -> u64 {
-    let held = round.voters();
-    let answer = held.answer;
-    let first = plus(of_done(answer), of_primary(round.primary_voter()));
-    let prevotes = of_participation(round.prevote_participation());
-    let precommits = of_participation(round.precommit_participation());
+    let first = plus(is_nine(round.voters()), is_nine(round.primary_voter()));
+    let prevotes = is_nine(round.prevote_participation());
+    let precommits = is_nine(round.precommit_participation());
     plus(first, plus(prevotes, precommits))
 }
 
 // `is_round` and `two_views`, with the round on either side.
 fn of_tests(round: Round, good: Round) -> u64 {
-    let one = of_views(two_views::two_views(round, good));
-    let other = of_views(two_views::two_views(good, round));
+    let one = is_nine(two_views::two_views(round, good));
+    let other = is_nine(two_views::two_views(good, round));
     plus(of_test(round.is_round()), plus(one, other))
 }
 
@@ -193,7 +112,7 @@ fn imported(round: Round, phase: Phase) -> Back {
     let answer = made.answer;
     let after = made.round;
     Back {
-        nine: of_import(answer),
+        nine: is_nine(answer),
         round: after,
     }
 }
@@ -206,7 +125,7 @@ fn marked(round: Round, phase: Phase) -> Back {
     let answer = made.answer;
     let after = made.round;
     Back {
-        nine: of_done(answer),
+        nine: is_nine(answer),
         round: after,
     }
 }
@@ -216,7 +135,7 @@ fn added(round: Round) -> Back {
     let answer = made.answer;
     let after = made.round;
     Back {
-        nine: of_grown(answer),
+        nine: is_nine(answer),
         round: after,
     }
 }
@@ -226,7 +145,7 @@ fn sought(round: Round) -> Back {
     let answer = made.answer;
     let after = made.round;
     Back {
-        nine: of_told(answer),
+        nine: is_nine(answer),
         round: after,
     }
 }
@@ -261,7 +180,7 @@ fn written(round: Round, list: u8) -> Tally {
         _ => round.finalizing_precommits(&mut out),
     };
     Tally {
-        nines: of_written(answer),
+        nines: is_nine(answer),
         changed: spoiled(&out),
     }
 }
@@ -307,7 +226,7 @@ fn of_new(round: Round, base: u32) -> u64 {
     let table = round.table;
     let made = Round::new(round.number, voters, table, base);
     let answer = made.answer;
-    of_done(answer)
+    is_nine(answer)
 }
 
 // What the calls say of the round of a damaged one's words, and `new` of its voters and table, on the block that is the base of the good

@@ -6,18 +6,13 @@ use Prim.Native.Nat.{ℕ, ◌+◌, ◌*◌}
 use lib.Dec.{ltb}
 use lib.ListN.{length, drop}
 use Rattle.grandpa.specs.Views.{two_views}
-use Rattle.nodes.specs.declared.Found.{Found}
-use Rattle.nodes.specs.declared.Found.TheVariants.{At, Nothing}
 use Rattle.listing.specs.declared.Wanted.TheVariants.{Finalizing}
-use Rattle.listing.specs.declared.Written.{Written}
 use Rattle.listing.specs.Written.{Lent, record_of, in_a_row, written}
 use Rattle.listing.proofs.Rows.{row_length, record_size}
 use Rattle.round.specs.declared.Round.{Round}
 use Rattle.round.specs.Shape.{shaped}
 use Rattle.round.specs.Ask.{entries_of, records, listed, finalizing, finalizing_precommits}
-use Rattle.two_views.specs.declared.Views.{Views}
 use Rattle.two_views.specs.Views.{views}
-use Rattle.feeding.specs.declared.Stop.TheVariants.{Open, Refused}
 use Rattle.feeding.specs.declared.Replay.{Replay}
 use Rattle.feeding.specs.Feeding.{replayed}
 use Rattle.summary.specs.declared.Summary.{Summary}
@@ -28,12 +23,14 @@ use Rattle.figures.specs.Figures.{figures, in_order, figured}
 use Rattle.figures.proofs.Rows.{figures_length}
 use Rattle.beamtassel.specs.Calls.{Call, refused, given, number_of, has_round, finalizing_in, views_in, weighed, replay_call, print_call, finalizing_call, two_views_call}
 use Rattle.beamtassel.proofs.Rounds.{round_passes}
+use Rattle.std.specs.Prelude.{Option, Some, None, Result, Ok, Err}
+use Rattle.refusals.specs.declared.Refusal.{Refusal}
 
 -- an answer beside a lent buffer, as a call
 abbrev as_call : Lent → Call
 as_call l = record { number = number_of l.answer; out = l.bytes }
 
-called : (w : Written) (n : ℕ) (after : List ℕ) → n ≡ number_of w → (l : Lent) → record { answer = w; bytes = after } ≡ l → record { number = n; out = after } ≡ as_call l
+called : (w : Result ℕ Refusal) (n : ℕ) (after : List ℕ) → n ≡ number_of w → (l : Lent) → record { answer = w; bytes = after } ≡ l → record { number = n; out = after } ≡ as_call l
 called w n after e l h = (λ i. record { number = e i; out = after }) ∙ ap as_call h
 
 call_cond : (b : Bool) (x y : Lent) → as_call (cond b x y) ≡ cond b (as_call x) (as_call y)
@@ -59,11 +56,11 @@ finalizing_given : (r : Round) → shaped r ≡ true → (out : List ℕ) → as
 unfolding finalizing_precommits listed records
 finalizing_given r s out = rw s (go r.answers.finalized)
   where
-    go : (found : Found) → as_call (finalizing r out found) ≡ finalizing_in r found out
-    go (At b) =
+    go : (found : Option ℕ) → as_call (finalizing r out found) ≡ finalizing_in r found out
+    go (Some b) =
         written_given (record_of r.votes r.context.voters.ids r.table.ids r.table.numbers)
         (record_size r.votes r.context.voters.ids r.table.ids r.table.numbers) (entries_of (Finalizing b) r) out
-    go Nothing = refl
+    go None = refl
 
 pub views_are : (a b : Round) → shaped a ≡ true → shaped b ≡ true → views a b ≡ views_in a b
 unfolding views views_in
@@ -71,12 +68,12 @@ views_are a b s t = rw (s, t)
 
 -- what the code finds, and the calls
 module _ (js out : List ℕ) where
-  pub replay_done : (s : Summary) → s ≡ summed (replayed js) → (w : Written) (n : ℕ) (after : List ℕ) → n ≡ number_of w
+  pub replay_done : (s : Summary) → s ≡ summed (replayed js) → (w : Result ℕ Refusal) (n : ℕ) (after : List ℕ) → n ≡ number_of w
       → record { answer = w; bytes = after } ≡ figured s out → record { number = n; out = after } ≡ replay_call js out
   unfolding replay_call
   replay_done s e w n after f h = called w n after f _ h ∙ figures_given s out ∙ ap (λ (x : Summary). given (in_order (figures x)) out) e
 
-  pub print_done : (s : Summary) → s ≡ summed (replayed js) → (w : Written) (n : ℕ) (after : List ℕ) → n ≡ number_of w
+  pub print_done : (s : Summary) → s ≡ summed (replayed js) → (w : Result ℕ Refusal) (n : ℕ) (after : List ℕ) → n ≡ number_of w
       → record { answer = w; bytes = after } ≡ printed s out → record { number = n; out = after } ≡ print_call js out
   unfolding print_call
   print_done s e w n after f h =
@@ -84,16 +81,16 @@ module _ (js out : List ℕ) where
       ∙ ap (λ (t : List ℕ). given t out) (text_summed (replayed js))
 
   module _ (r : Replay) (is : r ≡ replayed js) where
-    pub finalizing_refused : (k : ℕ) → r.stop ≡ Refused k → (n : ℕ) → n ≡ 4294967296 + k → record { number = n; out = out } ≡ finalizing_call js out
+    pub finalizing_refused : (k : ℕ) → r.stop ≡ Err k → (n : ℕ) → n ≡ 4294967296 + k → record { number = n; out = out } ≡ finalizing_call js out
     unfolding finalizing_call
     finalizing_refused k stop n f = rw (← is, stop, f)
 
-    pub finalizing_none : r.stop ≡ Open → has_round r.journal.turn ≡ false → (n : ℕ) → n ≡ 4294967296 + 15
+    pub finalizing_none : r.stop ≡ Ok tt → has_round r.journal.turn ≡ false → (n : ℕ) → n ≡ 4294967296 + 15
         → record { number = n; out = out } ≡ finalizing_call js out
     unfolding finalizing_call
     finalizing_none stop turn n f = rw (← is, stop, turn, f)
 
-    pub finalizing_done : r.stop ≡ Open → has_round r.journal.turn ≡ true → (w : Written) (n : ℕ) (after : List ℕ) → n ≡ number_of w
+    pub finalizing_done : r.stop ≡ Ok tt → has_round r.journal.turn ≡ true → (w : Result ℕ Refusal) (n : ℕ) (after : List ℕ) → n ≡ number_of w
         → record { answer = w; bytes = after } ≡ finalizing_precommits r.journal.round out → record { number = n; out = after } ≡ finalizing_call js out
     unfolding finalizing_call
     finalizing_done stop turn w n after f h =
@@ -106,15 +103,15 @@ module _ (first second out : List ℕ) (a b : Replay) (a_is : a ≡ replayed fir
   abbrev Is : ℕ → List ℕ → Type 0
   Is n after = ◌≡◌ {A = Call} (record { number = n; out = after }) (two_views_call first second out)
 
-  pub first_refused : (k : ℕ) → a.stop ≡ Refused k → (n : ℕ) → n ≡ 4294967296 + k → Is n out
+  pub first_refused : (k : ℕ) → a.stop ≡ Err k → (n : ℕ) → n ≡ 4294967296 + k → Is n out
   unfolding two_views_call
   first_refused k stop n f = rw (← a_is, stop, f)
 
-  pub second_refused : a.stop ≡ Open → (k : ℕ) → b.stop ≡ Refused k → (n : ℕ) → n ≡ 4294967296 + k → Is n out
+  pub second_refused : a.stop ≡ Ok tt → (k : ℕ) → b.stop ≡ Err k → (n : ℕ) → n ≡ 4294967296 + k → Is n out
   unfolding two_views_call
   second_refused going k stop n f = rw (← a_is, going, ← b_is, stop, f)
 
-  module _ (a_open : a.stop ≡ Open) (b_open : b.stop ≡ Open) where
+  module _ (a_open : a.stop ≡ Ok tt) (b_open : b.stop ≡ Ok tt) where
     pub first_none : has_round a.journal.turn ≡ false → (n : ℕ) → n ≡ 4294967296 + 16 → Is n out
     unfolding two_views_call
     first_none turn n f = rw (← a_is, a_open, ← b_is, b_open, turn, f)
@@ -123,11 +120,11 @@ module _ (first second out : List ℕ) (a b : Replay) (a_is : a ≡ replayed fir
     unfolding two_views_call
     second_none turn none n f = rw (← a_is, a_open, ← b_is, b_open, turn, none, f)
 
-    pub views_done : has_round a.journal.turn ≡ true → has_round b.journal.turn ≡ true → (v : Views) → v ≡ views a.journal.round b.journal.round
+    pub views_done : has_round a.journal.turn ≡ true → has_round b.journal.turn ≡ true → (v : Result ℕ Refusal) → v ≡ views a.journal.round b.journal.round
         → (n : ℕ) (after : List ℕ) → record { number = n; out = after } ≡ weighed v out → Is n after
     unfolding two_views_call
     views_done s t v e n after h =
-        h ∙ ap (λ (x : Views). weighed x out) (e ∙ views_are a.journal.round b.journal.round (shape first a a_is s) (shape second b b_is t))
+        h ∙ ap (λ (x : Result ℕ Refusal). weighed x out) (e ∙ views_are a.journal.round b.journal.round (shape first a a_is s) (shape second b b_is t))
         ∙ rw (← a_is, a_open, ← b_is, b_open, s, t) refl
       where
         shape : (js : List ℕ) (r : Replay) → r ≡ replayed js → has_round r.journal.turn ≡ true → shaped r.journal.round ≡ true

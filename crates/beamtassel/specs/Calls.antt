@@ -1,27 +1,22 @@
 -- The calls that consoles link, each on journals' bytes and a lent buffer. Document 01, "Refusal numbers": a refusal returns only its
 -- number, and the buffer is untouched.
-use Rattle.std.specs.Prelude.{Bool, true, false, cond, List, ◌++◌, ℕ, ◌+◌, ◌*◌, ltb, length, drop}
+use Rattle.std.specs.Prelude.{Bool, true, false, cond, List, ◌++◌, ℕ, ◌+◌, ◌*◌, ltb, length, drop, Option, Some, None, Result, Ok, Err, ⊤}
 use Rattle.grandpa.specs.Views.{two_views}
-use Rattle.nodes.specs.declared.Found.{Found}
-use Rattle.nodes.specs.declared.Found.TheVariants.{At, Nothing}
 use Rattle.records.specs.Bytes.{little}
 use Rattle.listing.specs.declared.Wanted.TheVariants.{Finalizing}
-use Rattle.listing.specs.declared.Written.{Written}
-use Rattle.listing.specs.declared.Written.TheVariants as written
 use Rattle.listing.specs.Written.{record_of, in_a_row}
 use Rattle.round.specs.declared.Round.{Round}
 use Rattle.round.specs.Ask.{entries_of}
-use Rattle.two_views.specs.declared.Views.{Views}
-use Rattle.two_views.specs.declared.Views.TheVariants as views
 use Rattle.two_views.specs.Views.{agree, voters, precommits}
 use Rattle.journal.specs.declared.Turn.{Turn}
 use Rattle.journal.specs.declared.Turn.TheVariants.{Voters, Blocks, Votes}
-use Rattle.feeding.specs.declared.Stop.{Stop}
-use Rattle.feeding.specs.declared.Stop.TheVariants as stop
 use Rattle.feeding.specs.Feeding.{replayed}
 use Rattle.report.specs.Report.{lines_of}
 use Rattle.summary.specs.Summary.{summed}
 use Rattle.figures.specs.Figures.{figures, in_order}
+use Rattle.refusals.specs.declared.Refusal.{Refusal}
+use Rattle.refusals.specs.declared.Refusal.TheVariants.{ShortBuffer, NothingFinal, UnlikeViews}
+use Rattle.refusals.specs.Number as refusal
 
 -- what a call returns, and the lent buffer after it
 pub record Call : Type 0 where
@@ -29,17 +24,17 @@ pub record Call : Type 0 where
   pub out : List ℕ
 
 -- 2^32 and the refusal's number; the buffer as it was
-abbrev pub refused : ℕ → List ℕ → Call
-refused n out = record { number = 4294967296 + n; out = out }
+abbrev pub refused : Refusal → List ℕ → Call
+refused e out = record { number = 4294967296 + refusal.number e; out = out }
 
 -- how many bytes, which stand at the start of the buffer; those after them stay. 14 where it is too short for them
 abbrev pub given : List ℕ → List ℕ → Call
 given bytes out =
-    cond (ltb (length out) (length bytes)) (refused 14 out) (record { number = length bytes; out = bytes ++ drop (length bytes) out })
+    cond (ltb (length out) (length bytes)) (refused ShortBuffer out) (record { number = length bytes; out = bytes ++ drop (length bytes) out })
 
-abbrev pub number_of : Written → ℕ
-number_of (written.Bytes n) = n
-number_of (written.Refused n) = 4294967296 + n
+abbrev pub number_of : Result ℕ Refusal → ℕ
+number_of (Ok n) = n
+number_of (Err e) = 4294967296 + refusal.number e
 
 -- the report in numbers; a refused journal is told there
 unfoldable pub replay_call : List ℕ → List ℕ → Call
@@ -50,9 +45,9 @@ unfoldable pub print_call : List ℕ → List ℕ → Call
 print_call journal out = given (lines_of (replayed journal)) out
 
 -- a refused journal's own number comes first
-abbrev pub unless_refused : Stop → List ℕ → Call → Call
-unless_refused (stop.Refused n) out call = refused n out
-unless_refused stop.Open out call = call
+abbrev pub unless_refused : Result ⊤ Refusal → List ℕ → Call → Call
+unless_refused (Err n) out call = refused n out
+unless_refused (Ok tt) out call = call
 
 -- the Op is among the records taken
 abbrev pub has_round : Turn → Bool
@@ -61,25 +56,25 @@ has_round Blocks = false
 has_round Voters = false
 
 -- the finalizing precommits as Pc records; 15 where nothing is finalized
-abbrev pub finalizing_in : Round → Found → List ℕ → Call
-finalizing_in r (At b) out =
+abbrev pub finalizing_in : Round → Option ℕ → List ℕ → Call
+finalizing_in r (Some b) out =
     given (in_a_row (record_of r.votes r.context.voters.ids r.table.ids r.table.numbers) (entries_of (Finalizing b) r)) out
-finalizing_in r Nothing out = refused 15 out
+finalizing_in r None out = refused NothingFinal out
 
 -- and where there is no round
 unfoldable pub finalizing_call : List ℕ → List ℕ → Call
 finalizing_call journal out =
     let r = replayed journal in
     unless_refused r.stop out
-    (cond (has_round r.journal.turn) (finalizing_in r.journal.round r.journal.round.answers.finalized out) (refused 15 out))
+    (cond (has_round r.journal.turn) (finalizing_in r.journal.round r.journal.round.answers.finalized out) (refused NothingFinal out))
 
 -- the two-view sum; 16 where the rounds differ in number, voters, base or table
-unfoldable pub views_in : Round → Round → Views
-views_in a b = cond (agree a b) (views.Weight (two_views (voters a) (precommits a) (precommits b))) (views.Refused 16)
+unfoldable pub views_in : Round → Round → Result ℕ Refusal
+views_in a b = cond (agree a b) (Ok (two_views (voters a) (precommits a) (precommits b))) (Err UnlikeViews)
 
-abbrev pub weighed : Views → List ℕ → Call
-weighed (views.Weight w) out = given (little 8 w) out
-weighed (views.Refused n) out = refused n out
+abbrev pub weighed : Result ℕ Refusal → List ℕ → Call
+weighed (Ok w) out = given (little 8 w) out
+weighed (Err n) out = refused n out
 
 -- and where there is no round in either
 unfoldable pub two_views_call : List ℕ → List ℕ → List ℕ → Call
@@ -89,8 +84,8 @@ two_views_call first second out =
     unless_refused a.stop out
     (unless_refused b.stop out
     (cond (has_round a.journal.turn)
-    (cond (has_round b.journal.turn) (weighed (views_in a.journal.round b.journal.round) out) (refused 16 out))
-    (refused 16 out)))
+    (cond (has_round b.journal.turn) (weighed (views_in a.journal.round b.journal.round) out) (refused UnlikeViews out))
+    (refused UnlikeViews out)))
 
 -- a version as one number
 abbrev pub version : ℕ → ℕ → ℕ → ℕ

@@ -6,24 +6,16 @@
 ghost use Rattle.std.specs.Prelude.{◌≡◌, ◌+◌};
 ghost use Rattle.beamtassel.specs.Calls.{Call, number_of, has_round, weighed, replay_call, print_call, finalizing_call, two_views_call, version};
 
-use feeding::Stop;
 use journal::Turn;
-use listing::Written;
-use two_views::Views;
-
-fn refusal(number: u8) -> u64
-    ensures { result ≡ 4294967296 + number }
-{
-    4294967296 + number as u64
-}
+use refusals::Refusal;
 
 // What a call returns.
-fn number_of(written: Written) -> u64
+fn number_of(written: Result<usize, Refusal>) -> u64
     ensures { result ≡ number_of written }
 {
     match written {
-        Written::Bytes(size) => size as u64,
-        Written::Refused(number) => refusal(number),
+        Ok(size) => size as u64,
+        Err(refusal) => 4294967296 + refusal.number() as u64,
     }
 }
 
@@ -55,63 +47,53 @@ fn has_round(turn: Turn) -> bool
 pub fn beamtassel_finalizing(journal: &[u8], out: &mut [u8]) -> u64
     ensures { ◌≡◌ {A = Call} (record { number = result; out = out.new }) (finalizing_call journal.now out.old) }
 {
+    number_of(finalizing(journal, out))
+}
+
+fn finalizing(journal: &[u8], out: &mut [u8]) -> Result<usize, Refusal>
+    ensures { ◌≡◌ {A = Call} (record { number = number_of result; out = out.new }) (finalizing_call journal.now out.old) }
+{
     let replay = feeding::replayed(journal);
-    let stop = replay.stop;
-    if let Stop::Refused(own) = stop {
-        return refusal(own);
+    replay.stop?;
+    if !has_round(replay.journal.turn) {
+        return Err(Refusal::NothingFinal);
     }
-    let told = replay.journal;
-    let turn = told.turn;
-    if !has_round(turn) {
-        return refusal(15);
-    }
-    let round = told.round;
-    number_of(round.finalizing_precommits(out))
+    replay.journal.round.finalizing_precommits(out)
 }
 
 // The sum, in eight bytes.
-fn put_weight(views: Views, out: &mut [u8]) -> u64
-    ensures { ◌≡◌ {A = Call} (record { number = result; out = out.new }) (weighed views out.old) }
+fn put_weight(weight: u64, out: &mut [u8]) -> Result<usize, Refusal>
+    ensures { ◌≡◌ {A = Call} (record { number = number_of result; out = out.new }) (weighed (Ok weight) out.old) }
 {
-    match views {
-        Views::Refused(number) => refusal(number),
-        Views::Weight(weight) => {
-            if out.len() < 8 {
-                return refusal(14);
-            }
-            figures::put(out, weight);
-            8
-        }
+    if out.len() < 8 {
+        return Err(Refusal::ShortBuffer);
     }
+    figures::put(out, weight);
+    Ok(8)
 }
 
 // The weight of the voters who precommitted twice in either of two journals of one round, or in both for blocks that differ in id.
 pub fn beamtassel_two_views(first: &[u8], second: &[u8], out: &mut [u8]) -> u64
     ensures { ◌≡◌ {A = Call} (record { number = result; out = out.new }) (two_views_call first.now second.now out.old) }
 {
+    number_of(views(first, second, out))
+}
+
+fn views(first: &[u8], second: &[u8], out: &mut [u8]) -> Result<usize, Refusal>
+    ensures { ◌≡◌ {A = Call} (record { number = number_of result; out = out.new }) (two_views_call first.now second.now out.old) }
+{
     let one = feeding::replayed(first);
     let other = feeding::replayed(second);
-    let one_stop = one.stop;
-    if let Stop::Refused(number) = one_stop {
-        return refusal(number);
+    one.stop?;
+    other.stop?;
+    if !has_round(one.journal.turn) {
+        return Err(Refusal::UnlikeViews);
     }
-    let other_stop = other.stop;
-    if let Stop::Refused(number) = other_stop {
-        return refusal(number);
+    if !has_round(other.journal.turn) {
+        return Err(Refusal::UnlikeViews);
     }
-    let one_told = one.journal;
-    let one_turn = one_told.turn;
-    if !has_round(one_turn) {
-        return refusal(16);
-    }
-    let other_told = other.journal;
-    let other_turn = other_told.turn;
-    if !has_round(other_turn) {
-        return refusal(16);
-    }
-    let one_round = one_told.round;
-    let other_round = other_told.round;
-    put_weight(two_views::two_views(one_round, other_round), out)
+    let weight = two_views::two_views(one.journal.round, other.journal.round)?;
+    put_weight(weight, out)
 }
 
 // The library's version: major, minor and patch, of which the last two take three digits each.

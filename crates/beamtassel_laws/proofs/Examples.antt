@@ -3,11 +3,12 @@ use mathlib.Core.Bool.{true, false}
 use mathlib.Core.List.{List, [], ◌∷◌}
 use mathlib.Core.Path.{◌≡◌, refl}
 use Prim.Native.Nat.{ℕ}
-use Rattle.round.specs.declared.Told.TheVariants.{Block}
 use Rattle.summary.specs.declared.Outcome.TheVariants.{Voting, Early, Refused}
 use Rattle.summary.specs.declared.Summary.{Summary}
 use Rattle.summary.specs.Summary.{bare}
 use Rattle.figures.specs.Figures.{figures}
+use Rattle.std.specs.Prelude.{Some, Ok}
+use Rattle.refusals.specs.declared.Refusal.TheVariants.{UnknownMark}
 
 abbrev case_j : Summary
 case_j =
@@ -21,9 +22,9 @@ case_j =
       heard = record { prevote = 4; precommit = 3 };
       prevoters = 4;
       precommitters = 3;
-      prevote = Block 12 2;
-      estimate = Block 12 2;
-      finalized = Block 11 1;
+      prevote = Ok (Some (12, 2));
+      estimate = Ok (Some (12, 2));
+      finalized = Ok (Some (11, 1));
       completable = true;
     }
 
@@ -33,7 +34,7 @@ unfolding figures
 figures_j = refl
 
 -- refused 17 at 17
-pub figures_refused : figures (bare (Refused 17) 16 0)
+pub figures_refused : figures (bare (Refused UnknownMark) 16 0)
     ≡ 2 ∷ 17 ∷ 17 ∷ 16 ∷ 0 ∷ 0 ∷ 0 ∷ 0 ∷ 0 ∷ 0 ∷ 0 ∷ 0 ∷ 0 ∷ 0 ∷ 0 ∷ 0 ∷ 0 ∷ 0 ∷ 0 ∷ 0 ∷ 0 ∷ 0 ∷ []
 unfolding figures bare
 figures_refused = refl

@@ -14,13 +14,9 @@ use Rattle.round.specs.Shape.{shaped}
 use Rattle.round.specs.Ask as ask
 use Rattle.round_laws.specs.Later.{Reached}
 use Rattle.round_laws.proofs.Lasting.{reached_fits}
-use Rattle.two_views.specs.declared.Views.{Views}
-use Rattle.two_views.specs.declared.Views.TheVariants as views
 use Rattle.two_views.specs.Views as two
 use Rattle.journal.specs.declared.Turn.{Turn}
 use Rattle.journal.specs.declared.Turn.TheVariants.{Voters, Blocks, Votes}
-use Rattle.feeding.specs.declared.Stop.{Stop}
-use Rattle.feeding.specs.declared.Stop.TheVariants.{Open, Refused}
 use Rattle.feeding.specs.Feeding.{replayed}
 use Rattle.replay_laws.specs.Rounds.{HasRound, round_in}
 use Rattle.replay_laws.proofs.Lasts.{round_reached}
@@ -31,28 +27,30 @@ use Rattle.demands.proofs.Makers as rounds
 use Rattle.beamtassel.specs.Calls.{Call, refused, unless_refused, has_round, views_in, weighed, two_views_call}
 use Rattle.beamtassel.proofs.Called.{views_are}
 use Rattle.beamtassel_laws.specs.Makers.{FinalsApart, Makers}
+use Rattle.std.specs.Prelude.{Result, Ok, Err, ⊤}
+use Rattle.refusals.specs.declared.Refusal.{Refusal}
 
 -- the call by its parts
-abbrev call_of : Stop → Stop → Bool → Bool → Views → List ℕ → Call
+abbrev call_of : Result ⊤ Refusal → Result ⊤ Refusal → Bool → Bool → Result ℕ Refusal → List ℕ → Call
 call_of s t u v w out = unless_refused s out (unless_refused t out (cond u (cond v (weighed w out) (refused 16 out)) (refused 16 out)))
 
 -- what an answer tells of them
-pub record Answered (s t : Stop) (u v : Bool) (w : Views) (out : List ℕ) : Type 0 where
-  pub first_open : s ≡ Open
-  pub second_open : t ≡ Open
+pub record Answered (s t : Result ⊤ Refusal) (u v : Bool) (w : Result ℕ Refusal) (out : List ℕ) : Type 0 where
+  pub first_open : s ≡ Ok tt
+  pub second_open : t ≡ Ok tt
   pub first_has : u ≡ true
   pub second_has : v ≡ true
   pub sum : ℕ
-  pub sums : w ≡ views.Weight sum
+  pub sums : w ≡ Ok sum
   pub bytes : take 8 (call_of s t u v w out).out ≡ little 8 sum
 
-answered_by : (s t : Stop) (u v : Bool) (w : Views) (out : List ℕ) → (call_of s t u v w out).number < 4294967296 → Answered s t u v w out
-answered_by (Refused n) t u v w out h = absurd (omega (arith, h))
-answered_by Open (Refused n) u v w out h = absurd (omega (arith, h))
-answered_by Open Open false v w out h = absurd (omega (arith, h))
-answered_by Open Open true false w out h = absurd (omega (arith, h))
-answered_by Open Open true true (views.Refused n) out h = absurd (omega (arith, h))
-answered_by Open Open true true (views.Weight n) out h =
+answered_by : (s t : Result ⊤ Refusal) (u v : Bool) (w : Result ℕ Refusal) (out : List ℕ) → (call_of s t u v w out).number < 4294967296 → Answered s t u v w out
+answered_by (Err n) t u v w out h = absurd (omega (arith, h))
+answered_by (Ok tt) (Err n) u v w out h = absurd (omega (arith, h))
+answered_by (Ok tt) (Ok tt) false v w out h = absurd (omega (arith, h))
+answered_by (Ok tt) (Ok tt) true false w out h = absurd (omega (arith, h))
+answered_by (Ok tt) (Ok tt) true true (Err n) out h = absurd (omega (arith, h))
+answered_by (Ok tt) (Ok tt) true true (Ok n) out h =
     record { first_open = refl; second_open = refl; first_has = refl; second_has = refl; sum = n; sums = refl; bytes = go (ltb (length out) 8) h }
   where
     go : (b : Bool) → (cond b (refused 14 out) (record { number = 8; out = little 8 n ++ drop 8 out })).number < 4294967296
@@ -66,7 +64,7 @@ turn_votes Blocks e = absurd (let z : ◌≡◌ {A = ℕ} 0 1 = cc in omega arit
 turn_votes Voters e = absurd (let z : ◌≡◌ {A = ℕ} 0 1 = cc in omega arith)
 
 -- a journal with a round
-module _ (bs : List ℕ) (going : (replayed bs).stop ≡ Open) (has : HasRound bs) where
+module _ (bs : List ℕ) (going : (replayed bs).stop ≡ Ok tt) (has : HasRound bs) where
   final_told : ask.finalized (round_in bs) ≡ (summed (replayed bs)).finalized
   unfolding summed of_round
   final_told = rw (going, has) ((demand_1 (round_in bs)).finalized.steps (keeps (round_in bs) (round_reached bs has)))
@@ -123,7 +121,7 @@ two_finals first second out apart =
     there : ask.finalized (round_in second) ≡ (summed (replayed second)).finalized
     there = final_told second x.second_open has_other
 
-    sums : two.views (round_in first) (round_in second) ≡ views.Weight x.sum
+    sums : two.views (round_in first) (round_in second) ≡ Ok x.sum
     sums =
         views_are (round_in first) (round_in second) (true_T (shaped (round_in first)) (keeps (round_in first) reached))
         (true_T (shaped (round_in second)) (keeps (round_in second) reached_other))

@@ -6,8 +6,6 @@ use Prim.Native.Nat.{ℕ, ◌≤◌}
 use native.Mathlib.Omega.{arith}
 use Rattle.marks.specs.declared.Mark.{Mark}
 use Rattle.marks.specs.declared.Mark.TheVariants.{Vt, Rt, Bk, Op, Pv, Pc}
-use Rattle.feeding.specs.declared.Stop.{Stop}
-use Rattle.feeding.specs.declared.Stop.TheVariants.{Open, Refused}
 use Rattle.feeding.specs.declared.Replay.{Replay}
 use Rattle.feeding.specs.Feeding.{replayed}
 use Rattle.replay_laws.specs.Ends.{Ends, at_end, at_mark, at_record, taken}
@@ -15,6 +13,7 @@ use Rattle.replay_laws.specs.Turned.{Part, voters, blocks, votes, part_of, Own}
 use Rattle.replay_laws.proofs.Ends.{replay_ends}
 use Rattle.replay_laws.proofs.Numbers.{refused_number}
 use Rattle.beamtassel_laws.specs.Results.{Refusal}
+use Rattle.std.specs.Prelude.{Result, Ok, Err, ⊤}
 
 -- a call's own refusals, 14 to 16, are none of them
 pub record OwnNumber (n : ℕ) : Type 0 where
@@ -55,9 +54,9 @@ own_number votes Pv n h = ten n (omega (arith, h.0), omega (arith, h.1))
 own_number votes Pc n h = ten n (omega (arith, h.0), omega (arith, h.1))
 
 -- what a stop tells
-abbrev Stops : Stop → Type 0
-Stops Open = Unit {0}
-Stops (Refused n) = OwnNumber n
+abbrev Stops : Result ⊤ Refusal → Type 0
+Stops (Ok tt) = Unit {0}
+Stops (Err n) = OwnNumber n
 
 pub replay_stops : (bs : List ℕ) → Stops (replayed bs).stop
 replay_stops bs = go (replayed bs) (replay_ends bs)
@@ -67,5 +66,5 @@ replay_stops bs = go (replayed bs) (replay_ends bs)
     go _ (at_mark c u) = late 17 (omega arith) (omega arith)
     go _ (at_record es e later n s c q) = own_number (part_of (taken es).state) e.mark n (refused_number es e n q)
 
-pub own_refusal : (bs : List ℕ) (n : ℕ) → (replayed bs).stop ≡ Refused n → OwnNumber n
+pub own_refusal : (bs : List ℕ) (n : ℕ) → (replayed bs).stop ≡ Err n → OwnNumber n
 own_refusal bs n e = subst Stops e (replay_stops bs)

@@ -9,19 +9,13 @@ use lib.ListN.{length, drop}
 use borrow.Author.Tests.{ltb-true, ltb-false}
 use Rattle.sizes.specs.Sizes.{VOTES}
 use Rattle.grandpa.specs.Views.{two_views}
-use Rattle.nodes.specs.declared.Found.{Found}
-use Rattle.nodes.specs.declared.Found.TheVariants.{At, Nothing}
 use Rattle.records.specs.Bytes.{little}
 use Rattle.listing.specs.declared.Wanted.TheVariants.{Finalizing}
 use Rattle.listing.specs.Written.{record_of, in_a_row}
 use Rattle.round.specs.declared.Round.{Round}
 use Rattle.round.specs.Shape.{shaped}
 use Rattle.round.specs.Ask.{entries_of}
-use Rattle.two_views.specs.declared.Views.{Views}
-use Rattle.two_views.specs.declared.Views.TheVariants as views
 use Rattle.two_views.specs.Views.{agree, voters, precommits}
-use Rattle.feeding.specs.declared.Stop.{Stop}
-use Rattle.feeding.specs.declared.Stop.TheVariants.{Open, Refused}
 use Rattle.feeding.specs.Feeding.{replayed}
 use Rattle.report.specs.Report.{lines_of}
 use Rattle.summary.specs.Summary.{summed}
@@ -32,6 +26,8 @@ use Rattle.beamtassel.proofs.Rounds.{round_passes}
 use Rattle.beamtassel_laws.specs.Results.{Refusal, Results, wrote, refuses}
 use Rattle.beamtassel_laws.proofs.Sizes.{lines_size, list_size}
 use Rattle.beamtassel_laws.proofs.Numbers.{own_refusal}
+use Rattle.std.specs.Prelude.{Option, Some, None, Result, Ok, Err, ⊤}
+use Rattle.refusals.specs.declared.Refusal.TheVariants.{UnlikeViews}
 
 module _ (most : ℕ) (out : List ℕ) where
   given_results : (bytes : List ℕ) → length bytes ≤ most → Results most out (given bytes out)
@@ -46,13 +42,13 @@ module _ (most : ℕ) (out : List ℕ) where
   no_results n h k =
       refuses n (record { listed = (omega (arith, h), omega (arith, k)); not_nine = λ e. omega (arith, h) }) (λ e. absurd (omega (arith, h)))
 
-  unless_results : (bs : List ℕ) (call : Call) → ((replayed bs).stop ≡ Open → Results most out call)
+  unless_results : (bs : List ℕ) (call : Call) → ((replayed bs).stop ≡ Ok tt → Results most out call)
       → Results most out (unless_refused (replayed bs).stop out call)
   unless_results bs call r = go (replayed bs).stop refl
     where
-      go : (s : Stop) → (replayed bs).stop ≡ s → Results most out (unless_refused s out call)
-      go Open e = r e
-      go (Refused n) e = let o = own_refusal bs n e in refuses n o.number (λ q. absurd (o.not_short q))
+      go : (s : Result ⊤ Refusal) → (replayed bs).stop ≡ s → Results most out (unless_refused s out call)
+      go (Ok tt) e = r e
+      go (Err n) e = let o = own_refusal bs n e in refuses n o.number (λ q. absurd (o.not_short q))
 
   cond_results : (t : Bool) (x y : Call) → (t ≡ true → Results most out x) → Results most out y → Results most out (cond t x y)
   cond_results true x y a b = a refl
@@ -76,11 +72,11 @@ module _ (out : List ℕ) where
       (λ e. cond_results (22 * VOTES) out (has_round (replayed journal).journal.turn) _ _ (λ t. go r (round_passes journal t) r.answers.finalized)
       (no_results (22 * VOTES) out 15 (omega arith) (omega arith)))
     where
-      go : (r : Round) → shaped r ≡ true → (found : Found) → Results (22 * VOTES) out (finalizing_in r found out)
-      go r s (At b) =
+      go : (r : Round) → shaped r ≡ true → (found : Option ℕ) → Results (22 * VOTES) out (finalizing_in r found out)
+      go r s (Some b) =
           given_results (22 * VOTES) out
           (in_a_row (record_of r.votes r.context.voters.ids r.table.ids r.table.numbers) (entries_of (Finalizing b) r)) (list_size r s b)
-      go r s Nothing = no_results (22 * VOTES) out 15 (omega arith) (omega arith)
+      go r s None = no_results (22 * VOTES) out 15 (omega arith) (omega arith)
 
   weighed_results : (a b : Round) → Results 8 out (weighed (views_in a b) out)
   unfolding views_in
@@ -89,7 +85,7 @@ module _ (out : List ℕ) where
       sum : ℕ
       sum = two_views (voters a) (precommits a) (precommits b)
 
-      go : (t : Bool) → Results 8 out (weighed (cond t (views.Weight sum) (views.Refused 16)) out)
+      go : (t : Bool) → Results 8 out (weighed (cond t (Ok sum) (Err UnlikeViews)) out)
       go true = given_results 8 out (little 8 sum) (omega arith)
       go false = no_results 8 out 16 (omega arith) (omega arith)
 

@@ -17,21 +17,19 @@ use Rattle.listing.proofs.Rows.{row_length, record_size}
 use Rattle.listing.proofs.Voters.{few_kept}
 use Rattle.answers.specs.declared.Answers.{Answers}
 use Rattle.round.specs.declared.Round.{Round}
-use Rattle.round.specs.declared.Told.{Told}
-use Rattle.round.specs.declared.Told.TheVariants as told
 use Rattle.round.specs.Shape.{shaped}
 use Rattle.round.specs.Ask.{heard_in, entries_of}
 use Rattle.round.specs.Calls.{block_of}
 use Rattle.two_views.proofs.Rounds.{voters_good}
 use Rattle.journal.specs.declared.Turn.{Turn}
 use Rattle.journal.specs.declared.Turn.TheVariants.{Voters, Blocks, Votes}
-use Rattle.feeding.specs.declared.Stop.{Stop}
-use Rattle.feeding.specs.declared.Stop.TheVariants.{Open, Refused}
 use Rattle.feeding.specs.declared.Replay.{Replay}
 use Rattle.lines.specs.Lines as lines
 use Rattle.lines.specs.Lines.{text, decimal, named, line, heard_line, block_end, block_line, completable_line, answer_lines}
 use Rattle.lines.proofs.Decimals.{decimal_length}
 use Rattle.report.specs.Report.{lines_by, lines_of}
+use Rattle.std.specs.Prelude.{Option, Some, None, Result, Ok, Err, ⊤}
+use Rattle.refusals.specs.declared.Refusal.{Refusal}
 
 -- two precommits of each voter, 22 bytes each
 pub list_size : (r : Round) → shaped r ≡ true → (b : ℕ)
@@ -74,12 +72,12 @@ heard_size word a b c d =
     end_size in
     record { at_most = omega (arith, all.at_most) }
 
-told_size : (t : Told) → Within 43 (block_end t)
-told_size (told.Block id number) = both_size (both_size (named_size (text " ") id) (named_size (text " ") number)) end_size
-told_size told.Nothing = record { at_most = omega arith }
-told_size (told.Refused n) = record { at_most = omega arith }
+told_size : (t : Result (Option (ℕ × ℕ)) Refusal) → Within 43 (block_end t)
+told_size (Ok (Some (id, number))) = both_size (both_size (named_size (text " ") id) (named_size (text " ") number)) end_size
+told_size (Ok None) = record { at_most = omega arith }
+told_size (Err n) = record { at_most = omega arith }
 
-block_size : (word : List ℕ) (t : Told) → Within (length word + 43) (block_line word t)
+block_size : (word : List ℕ) (t : Result (Option (ℕ × ℕ)) Refusal) → Within (length word + 43) (block_line word t)
 unfolding block_line
 block_size word t = record { at_most = omega (arith, length-append word (block_end t), (told_size t).at_most) }
 
@@ -125,8 +123,8 @@ pub lines_size : (r : Replay) → length (lines_of r) ≤ 432
 unfolding lines_of
 lines_size r = go r.stop r.journal.turn
   where
-    go : (s : Stop) (t : Turn) → length (lines_by s t r) ≤ 432
-    go (Refused n) t = omega (arith, (refused_size n (plus r.records 1)).at_most)
-    go Open Votes = (round_size r.journal.round r.rest.count).at_most
-    go Open Blocks = omega (arith, (early_size r.rest.count).at_most)
-    go Open Voters = omega (arith, (early_size r.rest.count).at_most)
+    go : (s : Result ⊤ Refusal) (t : Turn) → length (lines_by s t r) ≤ 432
+    go (Err n) t = omega (arith, (refused_size n (plus r.records 1)).at_most)
+    go (Ok tt) Votes = (round_size r.journal.round r.rest.count).at_most
+    go (Ok tt) Blocks = omega (arith, (early_size r.rest.count).at_most)
+    go (Ok tt) Voters = omega (arith, (early_size r.rest.count).at_most)

@@ -1,9 +1,8 @@
 -- Document 02, R-3, over bytes: two journals that `beamtassel_two_views` doesn't refuse, each with a final block, neither of which is the
 -- other or its ancestor. Then the eight bytes tell more than the fault weight. `summed` is what `beamtassel_replay` reports of a journal.
-use Rattle.std.specs.Prelude.{List, ◌≡◌, ℕ, ◌<◌, take}
+use Rattle.std.specs.Prelude.{List, ◌≡◌, ℕ, ◌<◌, take, Some, Ok}
 use Rattle.grandpa.specs.Weight.{fault}
 use Rattle.records.specs.Bytes.{number_of}
-use Rattle.round.specs.declared.Told.TheVariants.{Block}
 use Rattle.feeding.specs.Feeding.{replayed}
 use Rattle.replay_laws.specs.Rounds.{round_in}
 use Rattle.summary.specs.Summary.{summed}
@@ -16,10 +15,10 @@ pub record FinalsApart (first second out : List ℕ) : Type 0 where
   -- each has a final block
   pub id : ℕ
   pub number : ℕ
-  pub final : (summed (replayed first)).finalized ≡ Block id number
+  pub final : (summed (replayed first)).finalized ≡ Ok (Some (id, number))
   pub id_other : ℕ
   pub number_other : ℕ
-  pub final_other : (summed (replayed second)).finalized ≡ Block id_other number_other
+  pub final_other : (summed (replayed second)).finalized ≡ Ok (Some (id_other, number_other))
   -- neither is the other or its ancestor
   pub not_below : Below (round_in first).table (summed (replayed first)).finalized (summed (replayed second)).finalized → ⊥
   pub not_above : Below (round_in first).table (summed (replayed second)).finalized (summed (replayed first)).finalized → ⊥

@@ -10,17 +10,14 @@ use lib.ListN.{length, get_or, set, length-set}
 use lib.Seq.{get_or-set_same, get_or-set_other}
 use borrow.Author.Tests.{eq-eqb, ne_eqb}
 use Rattle.sizes.specs.Sizes.{BLOCKS}
-use Rattle.columns.specs.declared.Found.{Found}
-use Rattle.columns.specs.declared.Found.TheVariants as found
 use Rattle.columns.specs.Find.{find, contains}
 use Rattle.columns.proofs.Finds.{find_nothing, at_find, nothing_find, contains_find, contains_nothing}
 use Rattle.blocks.specs.declared.BlockTable.{BlockTable}
-use Rattle.blocks.specs.declared.Place.{Place}
-use Rattle.blocks.specs.declared.Place.TheVariants.{At, Nothing}
-use Rattle.blocks.specs.declared.Answer.{Answer}
 use Rattle.blocks.specs.declared.Added.{Added}
-use Rattle.blocks.specs.Add.{as_place, place_of, refused, placed, append}
+use Rattle.blocks.specs.Add.{place_of, refused, placed, append}
 use Rattle.block_index.specs.Index.{slot, held, Slotted, Indexed, indexed, marked}
+use Rattle.std.specs.Prelude.{Option, Some, None, Result}
+use Rattle.refusals.specs.declared.Refusal.{Refusal}
 
 pub slot_small : (id : ℕ) → slot id < 1024
 unfolding slot
@@ -28,23 +25,23 @@ slot_small id = omega arith
 
 -- what the place of an id says of its being there
 module _ (ids : List ℕ) (count id : ℕ) where
-  pub place_there : (k : ℕ) → place_of ids count id ≡ At k → contains ids count id ≡ true
+  pub place_there : (k : ℕ) → place_of ids count id ≡ Some k → contains ids count id ≡ true
   unfolding place_of
   place_there k e = go (find ids count id) refl e
     where
-      go : (f : Found) → find ids count id ≡ f → as_place f ≡ At k → contains ids count id ≡ true
-      go (found.At j) q r = contains_find ids count id j q
-      go found.Nothing q r = absurd (let z : ◌≡◌ {A = ℕ} 0 1 = cc in omega arith)
+      go : (f : Option ℕ) → find ids count id ≡ f → f ≡ Some k → contains ids count id ≡ true
+      go (Some j) q r = contains_find ids count id j q
+      go None q r = absurd (let z : ◌≡◌ {A = ℕ} 0 1 = cc in omega arith)
 
-  place_absent : place_of ids count id ≡ Nothing → find ids count id ≡ found.Nothing
+  place_absent : place_of ids count id ≡ None → find ids count id ≡ None
   unfolding place_of
   place_absent e = go (find ids count id) refl e
     where
-      go : (f : Found) → find ids count id ≡ f → as_place f ≡ Nothing → find ids count id ≡ found.Nothing
-      go (found.At j) q r = absurd (let z : ◌≡◌ {A = ℕ} 0 1 = cc in omega arith)
-      go found.Nothing q r = q
+      go : (f : Option ℕ) → find ids count id ≡ f → f ≡ None → find ids count id ≡ None
+      go (Some j) q r = absurd (let z : ◌≡◌ {A = ℕ} 0 1 = cc in omega arith)
+      go None q r = q
 
-  pub place_not_there : place_of ids count id ≡ Nothing → contains ids count id ≡ false
+  pub place_not_there : place_of ids count id ≡ None → contains ids count id ≡ false
   place_not_there e = contains_nothing ids count id (place_absent e)
 
 -- what the place in an id's slot tells
@@ -55,26 +52,25 @@ module _ (ids slots : List ℕ) (count : ℕ) (ix : Indexed ids slots count) (id
   slotted : (k : ℕ) → k < count → get_or ids k 0 ≡ id → Slotted ids slots count id
   slotted k h e = subst (λ x. Slotted ids slots count x) e (ix.used k h)
 
-  absent : ((k : ℕ) → k < count → get_or ids k 0 ≡ id → ⊥) → Nothing ≡ place_of ids count id
+  absent : ((k : ℕ) → k < count → get_or ids k 0 ≡ id → ⊥) → None ≡ place_of ids count id
   unfolding place_of
-  absent f = sym (ap as_place (nothing_find ids count id (λ k h. f k (omega arith))))
+  absent f = sym ((nothing_find ids count id (λ k h. f k (omega arith))))
 
   -- it is not used
-  pub slot_empty : count ≤ at → Nothing ≡ place_of ids count id
+  pub slot_empty : count ≤ at → None ≡ place_of ids count id
   slot_empty l = absent (λ k h e. omega (arith, (slotted k h e).inside, at_held))
 
   -- another slot's id stands there
-  pub slot_strange : (other : ℕ) → other ≡ slot (get_or ids at 0) → other ≢ own → Nothing ≡ place_of ids count id
+  pub slot_strange : (other : ℕ) → other ≡ slot (get_or ids at 0) → other ≢ own → None ≡ place_of ids count id
   slot_strange other q n =
       absent (λ k h e. n (q ∙ ap (λ p. slot (get_or ids p 0)) at_held ∙ (slotted k h e).alike ∙ sym o))
 
   -- the id stands there
-  pub slot_own : at < count → get_or ids at 0 ≡ id → At (get_or slots own 0) ≡ place_of ids count id
+  pub slot_own : at < count → get_or ids at 0 ≡ id → Some (get_or slots own 0) ≡ place_of ids count id
   unfolding place_of
   slot_own h e =
-      ap At (sym a)
-      ∙ sym (ap as_place
-      (at_find ids count id at (omega (arith, ix.few, ix.ids_size)) e
+      ap Some (sym a)
+      ∙ sym ((at_find ids count id at (omega (arith, ix.few, ix.ids_size)) e
       (λ j l q. (slotted at h e).first j (omega (arith, at_held)) (q ∙ sym e ∙ ap (λ p. get_or ids p 0) at_held))))
 
 -- slots of the places from m on
@@ -154,7 +150,7 @@ module _ (ids : List ℕ) (count : ℕ) where
 
 -- a block whose id was absent, at the first unused place
 module _ (ids slots : List ℕ) (count id : ℕ) (room : count < BLOCKS)
-    (new : place_of ids count id ≡ Nothing) (ix : Indexed ids slots count) where
+    (new : place_of ids count id ≡ None) (ix : Indexed ids slots count) where
   same_id : (j : ℕ) → j < count → get_or (set ids count id) j 0 ≡ get_or ids j 0
   same_id j h = get_or-set_other ids count j id 0 (λ q. omega arith)
 
@@ -197,7 +193,7 @@ module _ (ids slots : List ℕ) (count id : ℕ) (room : count < BLOCKS)
           }
 
 -- the slots after a block is appended or refused
-module _ (t : BlockTable) (slots : List ℕ) (id above : ℕ) (new : place_of t.ids t.count id ≡ Nothing) (ix : Indexed t.ids slots t.count) where
+module _ (t : BlockTable) (slots : List ℕ) (id above : ℕ) (new : place_of t.ids t.count id ≡ None) (ix : Indexed t.ids slots t.count) where
   abbrev Keeps : Added → Type 0
   Keeps a = Indexed a.table.ids (marked slots id a.answer) a.table.count
 
@@ -210,6 +206,6 @@ module _ (t : BlockTable) (slots : List ℕ) (id above : ℕ) (new : place_of t.
       numbers (no q) (yes r) = rw (ne_eqb _ _ q, eq-eqb _ _ r) ix
       numbers (no q) (no r) = rw (ne_eqb _ _ q, ne_eqb _ _ r) (placed_indexed t.ids slots t.count id (omega (arith, ix.few)) new ix)
 
-  pub append_indexed : (a : Answer) (u : BlockTable) → record { answer = a; table = u } ≡ append t id above
+  pub append_indexed : (a : Result ℕ Refusal) (u : BlockTable) → record { answer = a; table = u } ≡ append t id above
       → (next : List ℕ) → next ≡ marked slots id a → Indexed u.ids next u.count
   append_indexed a u e next m = subst (λ (s : List ℕ). Indexed u.ids s u.count) (sym m) (subst Keeps (sym e) append_keeps)

@@ -1,8 +1,7 @@
 -- Slots beside a table of blocks. Document 01, "Refusal numbers" 5 and 6: a Bk asks where two ids stand.
-use Rattle.std.specs.Prelude.{List, ◌≢◌, ◌≡◌, ℕ, zero, suc, ◌*◌, ◌/◌, ◌%◌, ◌≤◌, ◌<◌, length, get_or, set}
+use Rattle.std.specs.Prelude.{List, ◌≢◌, ◌≡◌, ℕ, zero, suc, ◌*◌, ◌/◌, ◌%◌, ◌≤◌, ◌<◌, length, get_or, set, Result, Ok, Err}
 use Rattle.sizes.specs.Sizes.{BLOCKS}
-use Rattle.blocks.specs.declared.Answer.{Answer}
-use Rattle.blocks.specs.declared.Answer.TheVariants.{Placed, Refused}
+use Rattle.refusals.specs.declared.Refusal.{Refusal}
 
 -- the slot of an id: its digits of ten bits, added up by one product
 unfoldable pub slot : ℕ → ℕ
@@ -30,6 +29,6 @@ indexed ids zero slots = slots
 indexed ids (suc n) slots = indexed ids n (set slots (slot (get_or ids n 0)) n)
 
 -- the slots after an answer
-abbrev pub marked : List ℕ → ℕ → Answer → List ℕ
-marked slots id (Placed k) = set slots (slot id) k
-marked slots id (Refused n) = slots
+abbrev pub marked : List ℕ → ℕ → Result ℕ Refusal → List ℕ
+marked slots id (Ok k) = set slots (slot id) k
+marked slots id (Err n) = slots

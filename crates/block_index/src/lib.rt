@@ -9,7 +9,7 @@ ghost use Rattle.blocks.specs.Add.{place_of, step, counted};
 ghost use Rattle.blocks.specs.declared.Added.{Added};
 ghost use Rattle.block_index.specs.Index.{slot, Indexed, indexed, marked};
 
-use blocks::{Answer, Place};
+use refusals::Refusal;
 use sizes::BLOCKS;
 
 fn wide(place: u8) -> usize
@@ -39,7 +39,7 @@ pub fn index(ids: &[u32; BLOCKS], slots: &mut [u8; 1024], count: usize)
 }
 
 // The block with this id. Where another id is met in its slot, the search decides.
-pub fn place(ids: &[u32; BLOCKS], slots: &[u8; 1024], count: usize, id: u32) -> Place
+pub fn place(ids: &[u32; BLOCKS], slots: &[u8; 1024], count: usize, id: u32) -> Option<u8>
     requires { Indexed ids.now slots.now count }
     ensures { result ≡ place_of ids.now count id }
 {
@@ -47,27 +47,27 @@ pub fn place(ids: &[u32; BLOCKS], slots: &[u8; 1024], count: usize, id: u32) -> 
     let held = slots[own];
     let at = wide(held);
     if count <= at {
-        return Place::Nothing;
+        return None;
     }
     let met = ids[at];
     if met == id {
-        return Place::At(held);
+        return Some(held);
     }
     if slot(met) != own {
-        return Place::Nothing;
+        return None;
     }
     blocks::find(ids, count, id)
 }
 
 // A placed block gets its slot.
-fn mark(slots: &mut [u8; 1024], id: u32, answer: Answer)
+fn mark(slots: &mut [u8; 1024], id: u32, answer: Result<u8, Refusal>)
     ensures { slots.new ≡ marked slots.old id answer }
 {
     match answer {
-        Answer::Placed(place) => {
+        Ok(place) => {
             slots[slot(id)] = place;
         }
-        Answer::Refused(_) => {}
+        Err(_) => {}
     }
 }
 
@@ -80,18 +80,18 @@ pub fn add(
     count: usize,
     id: u32,
     parent: u32,
-) -> Answer
+) -> Result<u8, Refusal>
     requires { Indexed ids.old slots.old count }
     ensures fact { ◌≡◌ {A = Added} (record { answer = result; table = table_of ids.new numbers.new parents.new (counted count result) })
         (step (table_of ids.old numbers.old parents.old count) id parent) }
     ensures slots_after { slots.new ≡ marked slots.old id result }
     ensures indexed { Indexed ids.new slots.new (counted count result) }
 {
-    let Place::Nothing = place(ids, slots, count, id) else {
-        return Answer::Refused(5);
+    let None = place(ids, slots, count, id) else {
+        return Err(Refusal::KnownBlock);
     };
-    let Place::At(above) = place(ids, slots, count, parent) else {
-        return Answer::Refused(6);
+    let Some(above) = place(ids, slots, count, parent) else {
+        return Err(Refusal::UnknownParent);
     };
     let answer = blocks::append(ids, numbers, parents, count, id, above);
     mark(slots, id, answer);

@@ -11,53 +11,49 @@ use lib.Seq.{get_or-set_same, get_or-set_other}
 use borrow.Author.Tests.{eq-eqb, ne_eqb}
 use Rattle.sizes.specs.Sizes.{BLOCKS}
 use Rattle.loops.proofs.Tests.{T_true, true_T, false_not, le_or_lt}
-use Rattle.columns.specs.declared.Found.{Found}
-use Rattle.columns.specs.declared.Found.TheVariants as found
 use Rattle.columns.specs.Find.{find, contains}
 use Rattle.columns.proofs.Finds.{find_at, at_find, contains_at, at_contains}
 use Rattle.grandpa.specs.Tree.{Tabled}
 use Rattle.grandpa.specs.Time.{Grown}
 use Rattle.blocks.specs.declared.BlockTable.{BlockTable}
-use Rattle.blocks.specs.declared.Place.{Place}
-use Rattle.blocks.specs.declared.Place.TheVariants.{At, Nothing}
-use Rattle.blocks.specs.declared.Answer.{Answer}
-use Rattle.blocks.specs.declared.Answer.TheVariants.{Placed, Refused}
 use Rattle.blocks.specs.declared.Added.{Added}
 use Rattle.blocks.specs.Table.{up, blocks, Stands, Absent}
-use Rattle.blocks.specs.Add.{as_place, place_of, refused, appended, placed, append, step}
+use Rattle.blocks.specs.Add.{place_of, refused, appended, placed, append, step}
 use Rattle.block_shape.specs.Shape.{tabled, Shaped}
 use Rattle.block_table.specs.Add.{opened, add, Due, breaks_the_shape, already_there, no_parent, last_number, full, room}
 use Rattle.block_shape.proofs.Shapes.{tabled_shaped, shaped_tabled}
+use Rattle.std.specs.Prelude.{Option, Some, None, Result, Ok, Err}
+use Rattle.refusals.specs.declared.Refusal.{Refusal}
+use Rattle.refusals.specs.declared.Refusal.TheVariants.{Misshapen}
 
 -- a block that is found stands there, and one that is not found stands nowhere
 module _ (t : BlockTable) (s : Shaped t) (id : ℕ) where
-  pub found_stands : (k : ℕ) → place_of t.ids t.count id ≡ At k → Stands t id k
+  pub found_stands : (k : ℕ) → place_of t.ids t.count id ≡ Some k → Stands t id k
   unfolding place_of
   found_stands k e = go (find t.ids t.count id) refl e
     where
-      go : (f : Found) → find t.ids t.count id ≡ f → as_place f ≡ At k → Stands t id k
-      go (found.At j) q r =
+      go : (f : Option ℕ) → find t.ids t.count id ≡ f → f ≡ Some k → Stands t id k
+      go (Some j) q r =
           let l = find_at t.ids t.count id j q in
           let j_is : j ≡ k = cc in
           subst (Stands t id) j_is (record { inside = omega (arith, l.inside); named = eqb→eq _ _ l.passes })
-      go found.Nothing q r = absurd (let z : ◌≡◌ {A = ℕ} 0 1 = cc in omega arith)
+      go None q r = absurd (let z : ◌≡◌ {A = ℕ} 0 1 = cc in omega arith)
 
-  pub stands_found : (k : ℕ) → Stands t id k → place_of t.ids t.count id ≡ At k
+  pub stands_found : (k : ℕ) → Stands t id k → place_of t.ids t.count id ≡ Some k
   unfolding place_of
   stands_found k p =
-      ap as_place
       (at_find t.ids t.count id k (omega (arith, s.few, s.ids_size, p.inside)) p.named
       (λ j h e. let q = s.distinct id j k (record { inside = omega (arith, p.inside); named = e }) p in omega arith))
 
-  pub nothing_stands : place_of t.ids t.count id ≡ Nothing → Absent t id
+  pub nothing_stands : place_of t.ids t.count id ≡ None → Absent t id
   nothing_stands e k p = let q = stands_found k p in let z : ◌≡◌ {A = ℕ} 0 1 = cc in omega arith
 
-  pub stands_nothing : Absent t id → place_of t.ids t.count id ≡ Nothing
+  pub stands_nothing : Absent t id → place_of t.ids t.count id ≡ None
   stands_nothing f = go (place_of t.ids t.count id) refl
     where
-      go : (p : Place) → place_of t.ids t.count id ≡ p → place_of t.ids t.count id ≡ Nothing
-      go (At k) q = absurd (f k (found_stands k q))
-      go Nothing q = q
+      go : (p : Option ℕ) → place_of t.ids t.count id ≡ p → place_of t.ids t.count id ≡ None
+      go (Some k) q = absurd (f k (found_stands k q))
+      go None q = q
 
   pub stands_contains : (k : ℕ) → Stands t id k → contains t.ids t.count id ≡ true
   stands_contains k p =
@@ -76,7 +72,7 @@ module _ (t : BlockTable) (s : Shaped t) (id : ℕ) where
 
 -- the answer is the one that is due
 module _ (t : BlockTable) (id parent : ℕ) where
-  pub due_answer : (a : Answer) → Due t id parent a → (add t id parent).answer ≡ a
+  pub due_answer : (a : Result ℕ Refusal) → Due t id parent a → (add t id parent).answer ≡ a
   unfolding add step append
   due_answer a (breaks_the_shape e) = rw e
   due_answer a (already_there h k p) = rw (true_T (tabled t) h, stands_contains t (tabled_shaped t h) id k p)
@@ -98,7 +94,7 @@ module _ (t : BlockTable) (id parent : ℕ) where
   pub answer_due : Due t id parent (add t id parent).answer
   answer_due = shape (tabled t) refl
     where
-      due : {a : Answer} → Due t id parent a → Due t id parent (add t id parent).answer
+      due : {a : Result ℕ Refusal} → Due t id parent a → Due t id parent (add t id parent).answer
       due {a} d = subst (Due t id parent) (sym (due_answer a d)) d
 
       counts : (h : T (tabled t)) → Absent t id → (k : ℕ) → Stands t parent k → get_or t.numbers k 0 ≢ 4294967295
@@ -111,10 +107,10 @@ module _ (t : BlockTable) (id parent : ℕ) where
       numbers h f k p (yes e) = due (last_number h f k p e)
       numbers h f k p (no e) = counts h f k p e (ℕ_discrete t.count BLOCKS)
 
-      parents : (h : T (tabled t)) → Absent t id → (p : Place) → place_of t.ids t.count parent ≡ p
+      parents : (h : T (tabled t)) → Absent t id → (p : Option ℕ) → place_of t.ids t.count parent ≡ p
           → Due t id parent (add t id parent).answer
-      parents h f (At k) e = numbers h f k (found_stands t (tabled_shaped t h) parent k e) (ℕ_discrete (get_or t.numbers k 0) 4294967295)
-      parents h f Nothing e = due (no_parent h f (nothing_stands t (tabled_shaped t h) parent e))
+      parents h f (Some k) e = numbers h f k (found_stands t (tabled_shaped t h) parent k e) (ℕ_discrete (get_or t.numbers k 0) 4294967295)
+      parents h f None e = due (no_parent h f (nothing_stands t (tabled_shaped t h) parent e))
 
       ids : (h : T (tabled t)) → (b : Bool) → contains t.ids t.count id ≡ b → Due t id parent (add t id parent).answer
       ids h true e = let r = contains_stands t (tabled_shaped t h) id e in due (already_there h r.0 r.1)
@@ -247,21 +243,21 @@ module _ (t : BlockTable) (s : Shaped t) (id parent : ℕ) where
   unfolding step append
   stepped = ids (contains t.ids t.count id) refl
     where
-      counts : (c : contains t.ids t.count id ≡ false) (k : ℕ) → place_of t.ids t.count parent ≡ At k
+      counts : (c : contains t.ids t.count id ≡ false) (k : ℕ) → place_of t.ids t.count parent ≡ Some k
           → get_or t.numbers k 0 ≢ 4294967295 → Dec (t.count ≡ BLOCKS) → Stepped t id parent (step t id parent)
       counts e k p n (yes q) = rw (e, p, ne_eqb _ _ n, eq-eqb _ _ q) (refuses 8)
       counts e k p n (no q) =
           rw (e, p, ne_eqb _ _ n, ne_eqb _ _ q) (places k (found_stands t s parent k p) (contains_none t s id e) (omega (arith, s.few)))
 
-      numbers : contains t.ids t.count id ≡ false → (k : ℕ) → place_of t.ids t.count parent ≡ At k
+      numbers : contains t.ids t.count id ≡ false → (k : ℕ) → place_of t.ids t.count parent ≡ Some k
           → Dec (get_or t.numbers k 0 ≡ 4294967295) → Stepped t id parent (step t id parent)
       numbers e k p (yes q) = rw (e, p, eq-eqb _ _ q) (refuses 7)
       numbers e k p (no q) = counts e k p q (ℕ_discrete t.count BLOCKS)
 
-      parents : contains t.ids t.count id ≡ false → (p : Place) → place_of t.ids t.count parent ≡ p
+      parents : contains t.ids t.count id ≡ false → (p : Option ℕ) → place_of t.ids t.count parent ≡ p
           → Stepped t id parent (step t id parent)
-      parents e (At k) p = numbers e k p (ℕ_discrete (get_or t.numbers k 0) 4294967295)
-      parents e Nothing p = rw (e, p) (refuses 6)
+      parents e (Some k) p = numbers e k p (ℕ_discrete (get_or t.numbers k 0) 4294967295)
+      parents e None p = rw (e, p) (refuses 6)
 
       ids : (b : Bool) → contains t.ids t.count id ≡ b → Stepped t id parent (step t id parent)
       ids true e = rw e (refuses 5)
@@ -275,11 +271,11 @@ module _ (t : BlockTable) (s : Shaped t) (id parent : ℕ) where
   stepped_grown (refuses n) = record { more = omega arith; same_up = λ k h. refl; same_number = λ k h. refl }
   stepped_grown (places above p f l) = appended_grown t s id above p.inside l
 
-  stepped_refused : {a : Added} (n : ℕ) → Stepped t id parent a → a.answer ≡ Refused n → a.table ≡ t
+  stepped_refused : {a : Added} (n : ℕ) → Stepped t id parent a → a.answer ≡ Err n → a.table ≡ t
   stepped_refused n (refuses m) e = refl
   stepped_refused n (places above p f l) e = absurd (let z : ◌≡◌ {A = ℕ} 0 1 = cc in omega arith)
 
-  stepped_placed : {a : Added} (k : ℕ) → Stepped t id parent a → a.answer ≡ Placed k
+  stepped_placed : {a : Added} (k : ℕ) → Stepped t id parent a → a.answer ≡ Ok k
       → (k ≡ t.count) × (above : ℕ) × Stands t parent above × Absent t id × (t.count < BLOCKS) × (a.table ≡ appended t id above)
   stepped_placed k (refuses m) e = absurd (let z : ◌≡◌ {A = ℕ} 0 1 = cc in omega arith)
   stepped_placed k (places above p f l) e = (cc, above, p, f, l, refl)
@@ -297,18 +293,18 @@ module _ (t : BlockTable) (s : Shaped t) (id parent : ℕ) where
   pub step_stands : (x k : ℕ) → Stands t x k → Stands (step t id parent).table x k
   step_stands x k q = stepped_stands x k stepped q
 
-  pub step_refused : (n : ℕ) → (step t id parent).answer ≡ Refused n → (step t id parent).table ≡ t
+  pub step_refused : (n : ℕ) → (step t id parent).answer ≡ Err n → (step t id parent).table ≡ t
   step_refused n e = stepped_refused n stepped e
 
   -- a placed block is the last, and new, under a parent that stands
-  pub step_placed : (k : ℕ) → (step t id parent).answer ≡ Placed k
+  pub step_placed : (k : ℕ) → (step t id parent).answer ≡ Ok k
       → (k ≡ t.count)
       × (above : ℕ) × Stands t parent above × Absent t id × (t.count < BLOCKS) × ((step t id parent).table ≡ appended t id above)
   step_placed k e = stepped_placed k stepped e
 
 -- the same of any table
 module _ (t : BlockTable) (id parent : ℕ) where
-  by_shape : (P : Added → Type 0) → (T (tabled t) → P (step t id parent)) → (tabled t ≡ false → P (refused t 9)) → P (add t id parent)
+  by_shape : (P : Added → Type 0) → (T (tabled t) → P (step t id parent)) → (tabled t ≡ false → P (refused t Misshapen)) → P (add t id parent)
   unfolding add
   by_shape P f g = go (tabled t) refl
     where
@@ -331,6 +327,6 @@ module _ (t : BlockTable) (id parent : ℕ) where
       (λ e. record { more = omega arith; same_up = λ k h. refl; same_number = λ k h. refl })
 
   -- a refusal hands the table back equal
-  pub add_refused : (n : ℕ) → (add t id parent).answer ≡ Refused n → (add t id parent).table ≡ t
+  pub add_refused : (n : ℕ) → (add t id parent).answer ≡ Err n → (add t id parent).table ≡ t
   add_refused n =
-      by_shape (λ (a : Added). a.answer ≡ Refused n → a.table ≡ t) (λ s. step_refused t (tabled_shaped t s) id parent n) (λ e q. refl)
+      by_shape (λ (a : Added). a.answer ≡ Err n → a.table ≡ t) (λ s. step_refused t (tabled_shaped t s) id parent n) (λ e q. refl)

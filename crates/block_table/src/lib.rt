@@ -6,32 +6,9 @@ ghost use Rattle.block_shape.specs.Shape.{tabled};
 ghost use Rattle.block_table.specs.Add.{opened, add};
 ghost use Rattle.block_table.specs.Ask.{find, number, ancestor_at, is_at_or_below};
 
-pub use blocks::{Added, Answer, BlockTable, Place};
+pub use blocks::{Added, BlockTable};
+use refusals::Refusal;
 use sizes::BLOCKS;
-
-// Where a block stands, asked of a table of anyone's making.
-#[derive(Clone, Copy)]
-pub enum Block {
-    At(u8),
-    Nothing,
-    Refused(u8),
-}
-
-// A block's number.
-#[derive(Clone, Copy)]
-pub enum BlockNumber {
-    Is(u32),
-    Nothing,
-    Refused(u8),
-}
-
-// Whether a block lies at or below another. Where one of the places holds no block, it does not.
-#[derive(Clone, Copy)]
-pub enum Below {
-    Yes,
-    No,
-    Refused(u8),
-}
 
 // A root with its number, and no other block.
 pub fn new(root: u32, number: u32) -> BlockTable
@@ -63,7 +40,7 @@ pub fn add(mut table: BlockTable, id: u32, parent: u32) -> Added
 {
     if !is_table(table) {
         return Added {
-            answer: Answer::Refused(9),
+            answer: Err(Refusal::Misshapen),
             table,
         };
     }
@@ -86,66 +63,66 @@ pub fn add(mut table: BlockTable, id: u32, parent: u32) -> Added
 }
 
 // The block with this id.
-pub fn find(table: BlockTable, id: u32) -> Block
+pub fn find(table: BlockTable, id: u32) -> Result<Option<u8>, Refusal>
     ensures { result ≡ find table id }
 {
     if !is_table(table) {
-        return Block::Refused(9);
+        return Err(Refusal::Misshapen);
     }
-    let Place::At(place) = blocks::find(&table.ids, table.count, id) else {
-        return Block::Nothing;
+    let Some(place) = blocks::find(&table.ids, table.count, id) else {
+        return Ok(None);
     };
-    Block::At(place)
+    Ok(Some(place))
 }
 
 // The number of the block at a place.
-pub fn number(table: BlockTable, block: u8) -> BlockNumber
+pub fn number(table: BlockTable, block: u8) -> Result<Option<u32>, Refusal>
     ensures { result ≡ number table block }
 {
     if !is_table(table) {
-        return BlockNumber::Refused(9);
+        return Err(Refusal::Misshapen);
     }
     if table.count <= block as usize {
-        return BlockNumber::Nothing;
+        return Ok(None);
     }
-    BlockNumber::Is(blocks::number(&table.numbers, block))
+    Ok(Some(blocks::number(&table.numbers, block)))
 }
 
 // The block of this number on the way from a block to the root.
-pub fn ancestor_at(table: BlockTable, block: u8, wanted: u32) -> Block
+pub fn ancestor_at(table: BlockTable, block: u8, wanted: u32) -> Result<Option<u8>, Refusal>
     ensures { result ≡ ancestor_at table block wanted }
 {
     if !is_table(table) {
-        return Block::Refused(9);
+        return Err(Refusal::Misshapen);
     }
     if table.count <= block as usize {
-        return Block::Nothing;
+        return Ok(None);
     }
     if wanted < blocks::number(&table.numbers, 0) {
-        return Block::Nothing;
+        return Ok(None);
     }
     if blocks::number(&table.numbers, block) < wanted {
-        return Block::Nothing;
+        return Ok(None);
     }
-    Block::At(blocks::ancestor_at(&table.parents, &table.numbers, block, wanted))
+    Ok(Some(blocks::ancestor_at(&table.parents, &table.numbers, block, wanted)))
 }
 
 // The Rust's `is_equal_or_descendent_of`.
-pub fn is_at_or_below(table: BlockTable, base: u8, block: u8) -> Below
+pub fn is_at_or_below(table: BlockTable, base: u8, block: u8) -> Result<bool, Refusal>
     ensures { result ≡ is_at_or_below table base block }
 {
     if !is_table(table) {
-        return Below::Refused(9);
+        return Err(Refusal::Misshapen);
     }
     if table.count <= base as usize {
-        return Below::No;
+        return Ok(false);
     }
     if table.count <= block as usize {
-        return Below::No;
+        return Ok(false);
     }
     if blocks::is_at_or_below(&table.parents, &table.numbers, base, block) {
-        Below::Yes
+        Ok(true)
     } else {
-        Below::No
+        Ok(false)
     }
 }

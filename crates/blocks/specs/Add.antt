@@ -1,31 +1,23 @@
 -- Adding a block to a table that keeps the shape. Document 01, "Refusal numbers" 5, 6, 7, 8, in that order; a refusal
 -- hands the table back equal.
-use Rattle.std.specs.Prelude.{cond, List, ℕ, ◌+◌, eqb, get_or, set}
+use Rattle.std.specs.Prelude.{cond, List, ℕ, ◌+◌, eqb, get_or, set, Option, Some, None, Result, Ok, Err}
 use Rattle.sizes.specs.Sizes.{BLOCKS}
-use Rattle.columns.specs.declared.Found.{Found}
-use Rattle.columns.specs.declared.Found.TheVariants as found
 use Rattle.columns.specs.Find.{find, contains}
 use Rattle.blocks.specs.declared.BlockTable.{BlockTable}
-use Rattle.blocks.specs.declared.Place.{Place}
-use Rattle.blocks.specs.declared.Place.TheVariants.{At, Nothing}
-use Rattle.blocks.specs.declared.Answer.{Answer}
-use Rattle.blocks.specs.declared.Answer.TheVariants.{Placed, Refused}
 use Rattle.blocks.specs.declared.Added.{Added}
-
-abbrev pub as_place : Found → Place
-as_place (found.At k) = At k
-as_place found.Nothing = Nothing
+use Rattle.refusals.specs.declared.Refusal.{Refusal}
+use Rattle.refusals.specs.declared.Refusal.TheVariants.{KnownBlock, NumberOverflow, TableFull, UnknownParent}
 
 -- where the block with this id stands
-unfoldable pub place_of : List ℕ → ℕ → ℕ → Place
-place_of ids count id = as_place (find ids count id)
+unfoldable pub place_of : List ℕ → ℕ → ℕ → Option ℕ
+place_of ids count id = find ids count id
 
-abbrev pub on_place : {A : Type 0} → Place → (ℕ → A) → A → A
-on_place (At k) f d = f k
-on_place Nothing f d = d
+abbrev pub on_place : {A : Type 0} → Option ℕ → (ℕ → A) → A → A
+on_place (Some k) f d = f k
+on_place None f d = d
 
-abbrev pub refused : BlockTable → ℕ → Added
-refused t n = record { answer = Refused n; table = t }
+abbrev pub refused : BlockTable → Refusal → Added
+refused t n = record { answer = Err n; table = t }
 
 -- the block at the first unused place, under the block at `above`
 abbrev pub appended : BlockTable → ℕ → ℕ → BlockTable
@@ -38,19 +30,19 @@ appended t id above =
     }
 
 abbrev pub placed : BlockTable → ℕ → ℕ → Added
-placed t id above = record { answer = Placed t.count; table = appended t id above }
+placed t id above = record { answer = Ok t.count; table = appended t id above }
 
 unfoldable pub append : BlockTable → ℕ → ℕ → Added
 append t id above =
-    cond (eqb (get_or t.numbers above 0) 4294967295) (refused t 7)
-    (cond (eqb t.count BLOCKS) (refused t 8) (placed t id above))
+    cond (eqb (get_or t.numbers above 0) 4294967295) (refused t NumberOverflow)
+    (cond (eqb t.count BLOCKS) (refused t TableFull) (placed t id above))
 
 unfoldable pub step : BlockTable → ℕ → ℕ → Added
 step t id parent =
-    cond (contains t.ids t.count id) (refused t 5)
-    (on_place (place_of t.ids t.count parent) (append t id) (refused t 6))
+    cond (contains t.ids t.count id) (refused t KnownBlock)
+    (on_place (place_of t.ids t.count parent) (append t id) (refused t UnknownParent))
 
 -- the blocks after an answer
-abbrev pub counted : ℕ → Answer → ℕ
-counted count (Placed k) = count + 1
-counted count (Refused n) = count
+abbrev pub counted : ℕ → Result ℕ Refusal → ℕ
+counted count (Ok k) = count + 1
+counted count (Err n) = count

@@ -9,7 +9,7 @@ ghost use Rattle.blocks.specs.Table.{up, view, table_of, climbed};
 ghost use Rattle.blocks.specs.Add.{place_of, append, step, counted};
 ghost use Rattle.blocks.specs.declared.Added.{Added};
 
-use columns::Found;
+use refusals::Refusal;
 use sizes::BLOCKS;
 
 // The blocks by place, with unused places 0. A parent is a place; the root is its own. The fields are public, so that
@@ -23,36 +23,22 @@ pub struct BlockTable {
     pub count: usize,
 }
 
-// What adding a block gives: its place, or the number of the refusal.
-#[derive(Clone, Copy)]
-pub enum Answer {
-    Placed(u8),
-    Refused(u8),
-}
-
 // The answer and the table beside it: an enum holds no array.
 #[derive(Clone, Copy)]
 pub struct Added {
-    pub answer: Answer,
+    pub answer: Result<u8, Refusal>,
     pub table: BlockTable,
 }
 
-// Where a block stands.
-#[derive(Clone, Copy)]
-pub enum Place {
-    At(u8),
-    Nothing,
-}
-
 // The block with this id.
-pub fn find(ids: &[u32; BLOCKS], count: usize, id: u32) -> Place
+pub fn find(ids: &[u32; BLOCKS], count: usize, id: u32) -> Option<u8>
     requires { count ≤ BLOCKS }
     ensures { result ≡ place_of ids.now count id }
 {
-    let Found::At(place) = columns::find(ids, count, id) else {
-        return Place::Nothing;
+    let Some(place) = columns::find(ids, count, id) else {
+        return None;
     };
-    Place::At(place as u8)
+    Some(place as u8)
 }
 
 pub fn number(numbers: &[u32; BLOCKS], block: u8) -> u32
@@ -99,22 +85,22 @@ pub fn append(
     count: usize,
     id: u32,
     above: u8,
-) -> Answer
+) -> Result<u8, Refusal>
     requires { count ≤ BLOCKS }
     ensures { ◌≡◌ {A = Added} (record { answer = result; table = table_of ids.new numbers.new parents.new (counted count result) })
         (append (table_of ids.old numbers.old parents.old count) id above) }
 {
     let number = number(numbers, above);
     if number == 4294967295 {
-        return Answer::Refused(7);
+        return Err(Refusal::NumberOverflow);
     }
     if count == BLOCKS {
-        return Answer::Refused(8);
+        return Err(Refusal::TableFull);
     }
     ids[count] = id;
     numbers[count] = number + 1;
     parents[count] = above;
-    Answer::Placed(count as u8)
+    Ok(count as u8)
 }
 
 // One more block. Where it is placed, the caller counts it.
@@ -125,27 +111,27 @@ pub fn add(
     count: usize,
     id: u32,
     parent: u32,
-) -> Answer
+) -> Result<u8, Refusal>
     requires { count ≤ BLOCKS }
     ensures { ◌≡◌ {A = Added} (record { answer = result; table = table_of ids.new numbers.new parents.new (counted count result) })
         (step (table_of ids.old numbers.old parents.old count) id parent) }
 {
     if columns::contains(ids, count, id) {
-        return Answer::Refused(5);
+        return Err(Refusal::KnownBlock);
     }
-    let Place::At(above) = find(ids, count, parent) else {
-        return Answer::Refused(6);
+    let Some(above) = find(ids, count, parent) else {
+        return Err(Refusal::UnknownParent);
     };
     append(ids, numbers, parents, count, id, above)
 }
 
 // The count after an answer.
-pub fn counted(count: usize, answer: Answer) -> usize
+pub fn counted(count: usize, answer: Result<u8, Refusal>) -> usize
     requires { count ≤ BLOCKS }
     ensures { result ≡ counted count answer }
 {
     match answer {
-        Answer::Placed(_) => count + 1,
-        Answer::Refused(_) => count,
+        Ok(_) => count + 1,
+        Err(_) => count,
     }
 }

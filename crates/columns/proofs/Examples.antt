@@ -4,12 +4,12 @@ use mathlib.Core.List.{[], ◌∷◌}
 use mathlib.Core.Path.{◌≡◌, refl}
 use Rattle.loops.specs.Loop.{first}
 use Rattle.loops.specs.All.{any}
-use Rattle.columns.specs.declared.Found.TheVariants.{At, Nothing}
 use Rattle.columns.specs.Find.{find, contains}
 use Rattle.columns.specs.Lists.{padded, shift}
+use Rattle.std.specs.Prelude.{Some, None}
 
 -- 3 stands at places 1 and 3, 0 at none; the count may be less than the column, or more
-found : (find (5 ∷ 3 ∷ 9 ∷ 3 ∷ []) 4 3 ≡ At 1) × (find (5 ∷ 3 ∷ 9 ∷ 3 ∷ []) 2 9 ≡ Nothing) × (find (5 ∷ 3 ∷ 9 ∷ 3 ∷ []) 7 0 ≡ Nothing)
+found : (find (5 ∷ 3 ∷ 9 ∷ 3 ∷ []) 4 3 ≡ Some 1) × (find (5 ∷ 3 ∷ 9 ∷ 3 ∷ []) 2 9 ≡ None) × (find (5 ∷ 3 ∷ 9 ∷ 3 ∷ []) 7 0 ≡ None)
 unfolding find first
 found = (refl, refl, refl)
 

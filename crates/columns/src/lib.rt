@@ -4,18 +4,10 @@
 ghost use Rattle.std.specs.Prelude.{◌≡◌, ◌+◌, ◌-◌, ◌≤◌, min, length};
 ghost use Rattle.loops.specs.Loop.{first};
 ghost use Rattle.loops.specs.All.{any};
-ghost use Rattle.columns.specs.declared.Found.TheVariants.{At, Nothing};
 ghost use Rattle.columns.specs.Find.{used, is_at, find, contains};
 
-// Where a number stands in a column.
-#[derive(Clone, Copy)]
-pub enum Found {
-    At(usize),
-    Nothing,
-}
-
 // The first used place where x stands.
-pub fn find(column: &[u32], count: usize, x: u32) -> Found
+pub fn find(column: &[u32], count: usize, x: u32) -> Option<usize>
     ensures { result ≡ find column.now count x }
 {
     let end = least(count, column.len());
@@ -44,7 +36,7 @@ fn least(a: usize, b: usize) -> usize
 // Places that need not be searched, whole eights of them.
 fn skip(column: &[u32], end: usize, x: u32) -> usize
     requires { end ≤ length column.now }
-    ensures { (result ≤ end) × (first (is_at column.now x) At Nothing end 0 ≡ first (is_at column.now x) At Nothing (end - result) result) }
+    ensures { (result ≤ end) × (first (is_at column.now x) Some None end 0 ≡ first (is_at column.now x) Some None (end - result) result) }
 {
     let mut from = 0;
     while 8 <= end - from {
@@ -71,14 +63,14 @@ fn eight(column: &[u32], from: usize, x: u32) -> bool
 }
 
 // The search from a place on, one place at a time.
-fn find_from(column: &[u32], from: usize, end: usize, x: u32) -> Found
+fn find_from(column: &[u32], from: usize, end: usize, x: u32) -> Option<usize>
     requires { end ≤ length column.now }
-    ensures { result ≡ first (is_at column.now x) At Nothing (end - from) from }
+    ensures { result ≡ first (is_at column.now x) Some None (end - from) from }
 {
     for k in from..end {
         if column[k] == x {
-            return Found::At(k);
+            return Some(k);
         }
     }
-    Found::Nothing
+    None
 }

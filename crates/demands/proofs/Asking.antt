@@ -1,7 +1,6 @@
 -- Calls that only read a round, calls that list into a lent buffer, and two views: when each refuses.
 use mathlib.Core.Bool.{cond}
 use mathlib.Core.List.{List, [], ◌∷◌, ◌++◌}
-use mathlib.Core.Option.{Option, none, some}
 use mathlib.Core.Path.{◌≡◌, refl, sym, ap, subst, ◌∙◌}
 use Prim.Native.Nat.{ℕ, ◌+◌, ◌*◌, ◌<◌}
 use native.Mathlib.Omega.{arith}
@@ -12,10 +11,7 @@ use borrow.Author.Tests.{lt-ltb}
 use Rattle.loops.specs.Listing.{front}
 use Rattle.loops.proofs.Tests.{T_true, true_T, true_false, false_not, dec_T}
 use Rattle.context.specs.declared.Phase.{Phase}
-use Rattle.nodes.specs.declared.Found.{Found}
-use Rattle.nodes.specs.declared.Found.TheVariants.{At, Nothing}
 use Rattle.listing.specs.declared.Wanted.TheVariants as wanted
-use Rattle.listing.specs.declared.Written.TheVariants as list
 use Rattle.listing.specs.Written.{phase_of, voter_of, pair_of, Lent, in_a_row, record_of, written}
 use Rattle.nodes.specs.Nodes.{col}
 use Rattle.records.proofs.Bytes.{length_vote}
@@ -29,23 +25,25 @@ use Rattle.two_views.proofs.Agreements.{agree_means, means_agree}
 use Rattle.two_views.proofs.Called.{views_told, views_unlike, views_misshaped}
 use Rattle.demands.specs.Refusals.{by_list, by_views}
 use Rattle.demands.specs.First.{Keeps, Exactly, Nine, misshaped, ListDue, too_short, FinalizingDue, none_final, ViewsDue, one_misshaped, other_misshaped, unlike, Reads, Lists}
+use Rattle.std.specs.Prelude.{Option, Some, None, Ok, Err}
+use Rattle.refusals.specs.declared.Refusal.TheVariants.{ShortBuffer, Misshapen}
 
-pub no_number : {n : ℕ} → none ≡ some n → ⊥
+pub no_number : {n : ℕ} → None ≡ Some n → ⊥
 no_number e = let z : ◌≡◌ {A = ℕ} 0 1 = cc in omega arith
 
-pub number_is : {m n : ℕ} → some m ≡ some n → m ≡ n
+pub number_is : {m n : ℕ} → Some m ≡ Some n → m ≡ n
 number_is e = cc
 
-module _ (r : Round) {A : Type 0} (number : A → Option ℕ) (x y : A) (quiet : number x ≡ none) (nine : number y ≡ some 9) where
+module _ (r : Round) {A : Type 0} (number : A → Option ℕ) (x y : A) (quiet : number x ≡ None) (nine : number y ≡ Some 9) where
   pub nine_exactly : Exactly (number (cond (shaped r) x y)) (Nine r)
   nine_exactly n = (to, fro n)
     where
-      to : number (cond (shaped r) x y) ≡ some n → Nine r n
+      to : number (cond (shaped r) x y) ≡ Some n → Nine r n
       to =
-          on_test (λ (z : A). number z ≡ some n → Nine r n) (shaped r) x y (λ e q. absurd (no_number (sym quiet ∙ q)))
+          on_test (λ (z : A). number z ≡ Some n → Nine r n) (shaped r) x y (λ e q. absurd (no_number (sym quiet ∙ q)))
           (λ e q. subst (Nine r) (number_is (sym nine ∙ q)) (misshaped e))
 
-      fro : (n : ℕ) → Nine r n → number (cond (shaped r) x y) ≡ some n
+      fro : (n : ℕ) → Nine r n → number (cond (shaped r) x y) ≡ Some n
       fro _ (misshaped e) = rw e nine
 
   pub reads : Reads r number (cond (shaped r) x y) x
@@ -53,16 +51,16 @@ module _ (r : Round) {A : Type 0} (number : A → Option ℕ) (x y : A) (quiet :
 
 -- what stands after the last record stays
 abbrev Rest : List ℕ → Lent → Type 0
-Rest out x = (n : ℕ) → x.answer ≡ list.Bytes n → drop n x.bytes ≡ drop n out
+Rest out x = (n : ℕ) → x.answer ≡ Ok n → drop n x.bytes ≡ drop n out
 
 -- a list of entries, on a round that keeps the shape rules
 module _ (f : ℕ → List ℕ) (entries out : List ℕ) where
-  written_short : length out < 22 * length entries → written f entries out ≡ record { answer = list.Refused 14; bytes = out }
+  written_short : length out < 22 * length entries → written f entries out ≡ record { answer = Err ShortBuffer; bytes = out }
   unfolding written
   written_short h = rw (lt-ltb (length out) (22 * length entries) h)
 
   abbrev ToldShort : Lent → Type 0
-  ToldShort x = (n : ℕ) → by_list x.answer ≡ some n → (n ≡ 14) × (length out < 22 * length entries) × (x.bytes ≡ out)
+  ToldShort x = (n : ℕ) → by_list x.answer ≡ Some n → (n ≡ 14) × (length out < 22 * length entries) × (x.bytes ≡ out)
 
   module _ (long : (e : ℕ) → length (f e) ≡ 22) where
     row_length : (es : List ℕ) → length (in_a_row f es) ≡ 22 * length es
@@ -90,25 +88,25 @@ module _ (f : ℕ → List ℕ) (entries out : List ℕ) where
 
 module _ (r : Round) (out : List ℕ) where
   abbrev listing : (ℕ → List ℕ) → List ℕ → Lent
-  listing f entries = cond (shaped r) (written f entries out) (refused 9 out)
+  listing f entries = cond (shaped r) (written f entries out) (refused Misshapen out)
 
   lists : (f : ℕ → List ℕ) → ((e : ℕ) → length (f e) ≡ 22) → (entries : List ℕ) → Lists r (ListDue r entries out) out (listing f entries) (written f entries out)
   lists f long entries =
       record {
         refuses = λ n. (to n, fro n);
-        untouched = λ n. on_test (λ (z : Lent). by_list z.answer ≡ some n → z.bytes ≡ out) (shaped r) _ _ (λ e q. (written_told f entries out n q).2) (λ e q. refl);
+        untouched = λ n. on_test (λ (z : Lent). by_list z.answer ≡ Some n → z.bytes ≡ out) (shaped r) _ _ (λ e q. (written_told f entries out n q).2) (λ e q. refl);
         rest = on_test (Rest out) (shaped r) _ _ (λ e. written_rest f entries out long)
             (λ e n q. absurd (let z : ◌≡◌ {A = ℕ} 0 1 = cc in omega arith));
         steps = λ t. on_true (λ (z : Lent). z ≡ written f entries out) (shaped r) _ _ t refl;
       }
     where
-      to : (n : ℕ) → by_list (listing f entries).answer ≡ some n → ListDue r entries out n
+      to : (n : ℕ) → by_list (listing f entries).answer ≡ Some n → ListDue r entries out n
       to n =
-          on_test (λ (z : Lent). by_list z.answer ≡ some n → ListDue r entries out n) (shaped r) _ _
+          on_test (λ (z : Lent). by_list z.answer ≡ Some n → ListDue r entries out n) (shaped r) _ _
           (λ e q. let w = written_told f entries out n q in subst (ListDue r entries out) (sym w.0) (too_short (T_true e) w.1))
           (λ e q. subst (ListDue r entries out) (number_is q) (misshaped e))
 
-      fro : (n : ℕ) → ListDue r entries out n → by_list (listing f entries).answer ≡ some n
+      fro : (n : ℕ) → ListDue r entries out n → by_list (listing f entries).answer ≡ Some n
       fro _ (misshaped e) = rw e
       fro _ (too_short t h) = rw (true_T (shaped r) t, written_short f entries out h)
 
@@ -131,19 +129,19 @@ module _ (r : Round) (out : List ℕ) where
 
   -- what a finalizing list refuses and leaves
   abbrev FinalDue : Lent → Type 0
-  FinalDue x = (n : ℕ) → by_list x.answer ≡ some n → FinalizingDue r out n × (x.bytes ≡ out)
+  FinalDue x = (n : ℕ) → by_list x.answer ≡ Some n → FinalizingDue r out n × (x.bytes ≡ out)
 
-  final_told : Keeps r → (o : Found) → r.answers.finalized ≡ o → FinalDue (finalizing r out o)
+  final_told : Keeps r → (o : Option ℕ) → r.answers.finalized ≡ o → FinalDue (finalizing r out o)
   unfolding listed records
-  final_told t (At b) e n q =
+  final_told t (Some b) e n q =
       let w = written_told records_are (entries_of (wanted.Finalizing b) r) out n q in
       (subst (FinalizingDue r out) (sym w.0) (too_short t b e w.1), w.2)
-  final_told t Nothing e n q = (subst (FinalizingDue r out) (number_is q) (none_final t e), refl)
+  final_told t None e n q = (subst (FinalizingDue r out) (number_is q) (none_final t e), refl)
 
-  final_rest : (o : Found) → Rest out (finalizing r out o)
+  final_rest : (o : Option ℕ) → Rest out (finalizing r out o)
   unfolding listed records
-  final_rest (At b) = written_rest records_are (entries_of (wanted.Finalizing b) r) out records_long
-  final_rest Nothing = λ n q. absurd (let z : ◌≡◌ {A = ℕ} 0 1 = cc in omega arith)
+  final_rest (Some b) = written_rest records_are (entries_of (wanted.Finalizing b) r) out records_long
+  final_rest None = λ n q. absurd (let z : ◌≡◌ {A = ℕ} 0 1 = cc in omega arith)
 
   pub final_lists :
       Lists r (FinalizingDue r out) out (finalizing_precommits r out) (finalizing r out r.answers.finalized)
@@ -156,12 +154,12 @@ module _ (r : Round) (out : List ℕ) where
         steps = λ t. on_true (λ (z : Lent). z ≡ finalizing r out r.answers.finalized) (shaped r) _ _ t refl;
       }
     where
-      all : FinalDue (cond (shaped r) (finalizing r out r.answers.finalized) (refused 9 out))
+      all : FinalDue (cond (shaped r) (finalizing r out r.answers.finalized) (refused Misshapen out))
       all =
           on_test FinalDue (shaped r) _ _ (λ e. final_told (T_true e) r.answers.finalized refl)
           (λ e n q. (subst (FinalizingDue r out) (number_is q) (misshaped e), refl))
 
-      fro : (n : ℕ) → FinalizingDue r out n → by_list (cond (shaped r) (finalizing r out r.answers.finalized) (refused 9 out)).answer ≡ some n
+      fro : (n : ℕ) → FinalizingDue r out n → by_list (cond (shaped r) (finalizing r out r.answers.finalized) (refused Misshapen out)).answer ≡ Some n
       fro _ (misshaped e) = rw e
       fro _ (none_final t e) = rw (true_T (shaped r) t, e)
       fro _ (too_short t b e h) =
@@ -176,7 +174,7 @@ module _ (a b : Round) where
   pub views_exactly : Exactly (by_views (views a b)) (ViewsDue a b)
   views_exactly n = (to (dec_T (shaped a)) (dec_T (shaped b)) (dec_T (agree a b)), fro n)
     where
-      to : Dec (T (shaped a)) → Dec (T (shaped b)) → Dec (T (agree a b)) → by_views (views a b) ≡ some n → ViewsDue a b n
+      to : Dec (T (shaped a)) → Dec (T (shaped b)) → Dec (T (agree a b)) → by_views (views a b) ≡ Some n → ViewsDue a b n
       to (no s) d w q =
           let e = views_misshaped a b (λ x y. s x) in
           subst (ViewsDue a b) (number_is (sym (ap by_views e) ∙ q)) (one_misshaped (false_not (shaped a) s))
@@ -188,7 +186,7 @@ module _ (a b : Round) where
           let e = views_unlike a b s t (λ o. w (means_agree a b o)) in
           subst (ViewsDue a b) (number_is (sym (ap by_views e) ∙ q)) (unlike s t (λ o. w (means_agree a b o)))
 
-      fro : (n : ℕ) → ViewsDue a b n → by_views (views a b) ≡ some n
+      fro : (n : ℕ) → ViewsDue a b n → by_views (views a b) ≡ Some n
       fro _ (one_misshaped e) = ap by_views (views_misshaped a b (λ x y. true_false (true_T _ x) e))
       fro _ (other_misshaped e) = ap by_views (views_misshaped a b (λ x y. true_false (true_T _ y) e))
       fro _ (unlike s t f) = ap by_views (views_unlike a b s t f)

@@ -13,7 +13,6 @@ use Rattle.answer_laws.specs.Faithful.{voters, table, votes}
 use Rattle.importing.specs.Import.{Frame, Held, import}
 use Rattle.held_laws.specs.Kept.{setting}
 use Rattle.round.specs.declared.Round.{Round}
-use Rattle.round.specs.declared.Imported.{Imported}
 use Rattle.round.specs.Shape.{frame, held, shaped}
 use Rattle.round.specs.Calls.{imported, import_vote}
 use Rattle.round_laws.specs.Fits.{Fits}
@@ -22,6 +21,10 @@ use Rattle.round_laws.proofs.Keeps.{on_true, held_again, import_shaped}
 use Rattle.round_laws.proofs.Lasting.{answers_meant}
 use Rattle.demands.specs.First.{Keeps}
 use Rattle.demands.specs.Second.{Few}
+use Rattle.std.specs.Prelude.{Result}
+use Rattle.refusals.specs.declared.Refusal.{Refusal}
+use Rattle.round.specs.declared.After.{After}
+use Rattle.judging.specs.declared.ImportResult.{ImportResult}
 
 pub record Ballot : Type 0 where
   pub phase : Phase
@@ -51,7 +54,7 @@ voted_becomes : (r : Round) → Keeps r → (v : Ballot)
     × (held (import_vote v.phase v.signer v.pair r).round ≡ (import (frame r) v.phase v.signer v.pair (held r)).held)
 unfolding import_vote imported
 voted_becomes r t v =
-    on_true (λ (x : Imported). (frame x.round ≡ frame r) × (held x.round ≡ (import (frame r) v.phase v.signer v.pair (held r)).held))
+    on_true (λ (x : After (Result ImportResult Refusal)). (frame x.round ≡ frame r) × (held x.round ≡ (import (frame r) v.phase v.signer v.pair (held r)).held))
     (shaped r) (imported v.phase v.signer v.pair r) _ t
     (refl, held_again r (import (frame r) v.phase v.signer v.pair (held r)).held)
 

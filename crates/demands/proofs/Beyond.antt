@@ -3,7 +3,6 @@
 -- moves to 12, and 14 has become possible.
 use mathlib.Core.Bool.{Bool, true, false, cond}
 use mathlib.Core.List.{List, [], ◌∷◌}
-use mathlib.Core.Option.{Option, some}
 use mathlib.Core.Path.{◌≡◌, refl, sym, ap, subst, ◌∙◌}
 use Prim.Native.Nat.{ℕ, ◌≤◌}
 use native.Mathlib.Omega.{arith}
@@ -37,9 +36,6 @@ use Rattle.judging.specs.Judge.{judge_first, judge}
 use Rattle.importing.specs.Import as parts
 use Rattle.importing.specs.Import.{Frame, Held, import, opened_held}
 use Rattle.round.specs.declared.Round.{Round}
-use Rattle.round.specs.declared.Done.TheVariants.{Yes}
-use Rattle.round.specs.declared.Told.TheVariants as block
-use Rattle.round.specs.declared.Whether.TheVariants as whether
 use Rattle.round.specs.Shape.{frame, held}
 use Rattle.round.specs.Calls.{opened, new}
 use Rattle.round.specs.Ask as ask
@@ -52,6 +48,7 @@ use Rattle.demands.specs.Third.{Beyond}
 use Rattle.demands.proofs.Shown.{estimate_shown, completable_shown}
 use Rattle.demands.proofs.Meant.{keeps}
 use Rattle.demands.proofs.Ballots.{Ballot, after, taken, after_later, Became, after_becomes, told_of, twice_weight, became_told, became_few}
+use Rattle.std.specs.Prelude.{Option, Some, Ok}
 
 abbrev pub four : VoterSet
 four = (set.new (1 ∷ 2 ∷ 3 ∷ 4 ∷ []) (1 ∷ 1 ∷ 1 ∷ 1 ∷ [])).voters
@@ -90,7 +87,7 @@ abbrev says : Option ℕ → Option ℕ → Option ℕ → Bool → Told
 says g e f c = record { ghost = g; finalized = f; estimate = e; completable = c }
 
 -- what the definitions tell, and the weight of the equivocators
-pub computed : (told_of stage then ≡ says (some 2) (some 1) (some 1) true) × (told_of stage now ≡ says (some 2) (some 2) (some 2) false)
+pub computed : (told_of stage then ≡ says (Some 2) (Some 1) (Some 1) true) × (told_of stage now ≡ says (Some 2) (Some 2) (Some 2) false)
     × (twice_weight Prevote stage then ≡ 0) × (twice_weight Prevote stage now ≡ 0) × (twice_weight Precommit stage now ≡ 2)
 unfolding
     told told_from ghost_of highest_of first_of search_up finalized_of estimate_of completable_of below within sum all any taken layout.RUN layout.bit layout.index bit import judge
@@ -102,7 +99,7 @@ pub totals : four.total ≡ 4
 unfolding set.new voters enter padded sum
 totals = refl
 
-pub opens : ((new 7 four tree 10).answer ≡ Yes) × ((new 7 four tree 10).round ≡ opened 7 four tree 0)
+pub opens : ((new 7 four tree 10).answer ≡ Ok tt) × ((new 7 four tree 10).round ≡ opened 7 four tree 0)
 unfolding
     new sound placed rising non_zero blank sum all any place_of columns.find columns.contains first set.new voters enter padded sized count_fits
     is_child is_tree are_distinct clear_at is_clear are_clear tabled blocks.opened append step blocks.add
@@ -142,23 +139,23 @@ is =
     after_becomes seconds earlier stage then (subst (λ (x : Frame). x.voters.total ≤ most) (sym was.0) fits) (keeps earlier reached) was.0
     was.1
 
-pub told_then : answers_of earlier ≡ says (some 2) (some 1) (some 1) true
+pub told_then : answers_of earlier ≡ says (Some 2) (Some 1) (Some 1) true
 told_then = became_told earlier stage then was.0 was.1 reached (omega (arith, totals)) (omega (arith, computed.2)) ∙ computed.0
 
-told_now : answers_of later ≡ says (some 2) (some 2) (some 2) false
+told_now : answers_of later ≡ says (Some 2) (Some 2) (Some 2) false
 told_now =
     became_told later stage now is.0 is.1 (reached_later earlier reached later calls) (omega (arith, totals)) (omega (arith, computed.3))
     ∙ computed.1
 
 -- blocks by id and number
-named : (r : Round) → frame r ≡ stage → (shown r (some 1) ≡ block.Block 11 1) × (shown r (some 2) ≡ block.Block 12 2)
+named : (r : Round) → frame r ≡ stage → (shown r (Some 1) ≡ Ok (Some (11, 1))) × (shown r (Some 2) ≡ Ok (Some (12, 2)))
 unfolding
     place_of columns.find columns.contains first all any sized count_fits is_child is_tree are_distinct clear_at is_clear are_clear tabled blocks.opened append
     step blocks.add
 named r e =
     subst (λ (f : Frame).
-    (block.Block (col f.table.ids 1) (col f.table.numbers 1) ≡ block.Block 11 1)
-    × (block.Block (col f.table.ids 2) (col f.table.numbers 2) ≡ block.Block 12 2)) (sym e) (refl, refl)
+    (Ok (Some ((col f.table.ids 1), (col f.table.numbers 1))) ≡ Ok (Some (11, 1)))
+    × (Ok (Some ((col f.table.ids 2), (col f.table.numbers 2))) ≡ Ok (Some (12, 2)))) (sym e) (refl, refl)
 
 stands : (f : Frame) → f ≡ stage → Stands f.table 11 1 × Stands f.table 12 2 × T (below (col f.table.parents) 1 2)
 unfolding
@@ -171,10 +168,10 @@ stands f e =
 keeps_later : Keeps later
 keeps_later = keeps later (reached_later earlier reached later calls)
 
-estimate_then : ask.estimate earlier ≡ block.Block 11 1
+estimate_then : ask.estimate earlier ≡ Ok (Some (11, 1))
 estimate_then = estimate_shown earlier (keeps earlier reached) ∙ ap (λ (x : Told). shown earlier x.estimate) told_then ∙ (named earlier was.0).0
 
-estimate_now : ask.estimate later ≡ block.Block 12 2
+estimate_now : ask.estimate later ≡ Ok (Some (12, 2))
 estimate_now = estimate_shown later keeps_later ∙ ap (λ (x : Told). shown later x.estimate) told_now ∙ (named later is.0).1
 
 pub premise_needed : Beyond
@@ -186,8 +183,8 @@ premise_needed =
       calls = calls;
       above = λ few. omega (arith, became_few later stage now is.0 is.1 Precommit few, totals, computed.4);
       was_completable =
-          completable_shown earlier (keeps earlier reached) ∙ ap (λ (x : Told). cond x.completable whether.Yes whether.No) told_then;
-      not_completable = completable_shown later keeps_later ∙ ap (λ (x : Told). cond x.completable whether.Yes whether.No) told_now;
+          completable_shown earlier (keeps earlier reached) ∙ ap (λ (x : Told). cond x.completable (Ok true) (Ok false)) told_then;
+      not_completable = completable_shown later keeps_later ∙ ap (λ (x : Told). cond x.completable (Ok true) (Ok false)) told_now;
       was_estimate = estimate_then;
       estimate = estimate_now;
       away = record {

@@ -20,13 +20,13 @@ use Rattle.answer_laws.specs.Faithful.{Faithful}
 use Rattle.held_laws.specs.Kept.{setting, Kept}
 use Rattle.held_laws.proofs.Parts.{kept_faithful}
 use Rattle.round.specs.declared.Round.{Round}
-use Rattle.round.specs.declared.Participation.TheVariants.{Heard}
 use Rattle.round.specs.Shape.{frame, held, shaped}
 use Rattle.round.specs.Ask.{heard_in, prevote_participation, precommit_participation}
 use Rattle.round_laws.specs.Fits.{Fits}
 use Rattle.round_laws.specs.Later.{votes_of}
 use Rattle.round_laws.proofs.Shaped.{shaped_kept}
 use Rattle.demands.specs.First.{Keeps, heard_weight, heard_voters}
+use Rattle.std.specs.Prelude.{Ok}
 
 -- every first target is at or below the base
 lands_spoke : (up : ℕ → ℕ) (base : ℕ) (v : Vote) → ((x : ℕ) → Targets v x → T (below up base x)) → lands up base v ≡ spoke v
@@ -58,10 +58,10 @@ module _ (r : Round) (fits : Fits r) (t : Keeps r) where
       ∙ sum_short r.context.voters.count (VOTERS - r.context.voters.count) (λ p. cond (spoke (votes_of r phase p)) 1 0)
       (λ p h. ap (λ (v : Vote). cond (spoke v) 1 0) (faith.no_voter phase p h))
 
-  pub prevotes_counted : prevote_participation r ≡ Heard (heard_weight r Prevote) (heard_voters r Prevote)
+  pub prevotes_counted : prevote_participation r ≡ Ok ((heard_weight r Prevote), (heard_voters r Prevote))
   unfolding prevote_participation
   prevotes_counted = rw (true_T (shaped r) t, kept.prevotes_heard, counted Prevote)
 
-  pub precommits_counted : precommit_participation r ≡ Heard (heard_weight r Precommit) (heard_voters r Precommit)
+  pub precommits_counted : precommit_participation r ≡ Ok ((heard_weight r Precommit), (heard_voters r Precommit))
   unfolding precommit_participation
   precommits_counted = rw (true_T (shaped r) t, kept.precommits_heard, counted Precommit)

@@ -1,6 +1,5 @@
 -- The wrong rounds of document 01, "Judging a promise", break what is promised.
 use mathlib.Core.List.{[], ◌∷◌}
-use mathlib.Core.Option.{Option, none, some}
 use mathlib.Core.Path.{◌≡◌, refl, sym, ap, subst, ◌∙◌}
 use Prim.Native.Nat.{ℕ, ◌≤◌, ◌<◌}
 use native.Mathlib.Omega.{arith}
@@ -32,9 +31,6 @@ use Rattle.judging.specs.declared.ImportResult.TheVariants as vote
 use Rattle.judging.specs.Judge.{judge_first, judge}
 use Rattle.importing.specs.Import.{Frame, Held, import, opened_held}
 use Rattle.round.specs.declared.Round.{Round}
-use Rattle.round.specs.declared.Imported.{Imported}
-use Rattle.round.specs.declared.Told.{Told}
-use Rattle.round.specs.declared.Told.TheVariants as block
 use Rattle.round.specs.Shape.{frame, held, shaped}
 use Rattle.round.specs.Calls.{imported, import_vote}
 use Rattle.round_laws.specs.Later.{here, Reached}
@@ -48,38 +44,41 @@ use Rattle.demands.proofs.Meant.{keeps, demand_2}
 use Rattle.demands.proofs.Ballots.{Ballot, after, taken, after_later, Became, after_becomes, twice_weight}
 use Rattle.demands.proofs.Shown.{ghost_shown, finalized_shown, estimate_shown}
 use Rattle.demands.proofs.Beyond.{four, tree, stage, computed, totals, opens, start, earlier, fits, reached, framed, was, told_then}
+use Rattle.std.specs.Prelude.{Option, Some, None, Result, Ok}
+use Rattle.refusals.specs.declared.Refusal.{Refusal}
+use Rattle.round.specs.declared.After.{After}
 
-idle : (r : Round) (phase : Phase) (signer : ℕ) (p : Pair) → Rule r phase signer p vote.Counted → (a : ImportResult)
+idle : (r : Round) (phase : Phase) (signer : ℕ) (p : Pair) → Rule r phase signer p (Ok vote.Counted) → (a : Result ImportResult Refusal)
     → Promised r phase signer p (record { answer = a; round = r }) → ⊥
 idle r phase signer p due a promised =
-    let c = counted_by r phase signer p vote.Counted due refl in
-    let q = promised.records.first ((promised.rule vote.Counted).1 due) c.0.place c.0.voter in
+    let c = counted_by r phase signer p (Ok vote.Counted) due refl in
+    let q = promised.records.first ((promised.rule (Ok vote.Counted)).1 due) c.0.place c.0.voter in
     silent_not (sym c.0.silent ∙ q)
   where
     silent_not : recorded.Silent ≡ recorded.Single p → ⊥
     silent_not e = let z : ◌≡◌ {A = ℕ} 0 1 = cc in omega arith
 
-not_none : (r : Round) (P : ℕ → Type 0) (b : ℕ) → P b → Tells r block.Nothing P → ⊥
+not_none : (r : Round) (P : ℕ → Type 0) (b : ℕ) → P b → Tells r (Ok None) P → ⊥
 not_none r P b p t = go t.block t.tells t.says
   where
-    go : (o : Option ℕ) → block.Nothing ≡ shown r o → Says P o → ⊥
-    go none e s = s b p
-    go (some x) e s = let z : ◌≡◌ {A = ℕ} 0 1 = cc in omega arith
+    go : (o : Option ℕ) → (Ok None) ≡ shown r o → Says P o → ⊥
+    go None e s = s b p
+    go (Some x) e s = let z : ◌≡◌ {A = ℕ} 0 1 = cc in omega arith
 
 -- what is told is of a block
-told_some : (r : Round) (answer : Told) (P : ℕ → Type 0) → Tells r answer P → (b : ℕ) → answer ≡ shown r (some b) → (x : ℕ) × P x
+told_some : (r : Round) (answer : Result (Option (ℕ × ℕ)) Refusal) (P : ℕ → Type 0) → Tells r answer P → (b : ℕ) → answer ≡ shown r (Some b) → (x : ℕ) × P x
 told_some r answer P t b q = go t.block (sym t.tells ∙ q) t.says
   where
-    go : (o : Option ℕ) → shown r o ≡ shown r (some b) → Says P o → (x : ℕ) × P x
-    go none e s = absurd (let z : ◌≡◌ {A = ℕ} 0 1 = cc in omega arith)
-    go (some x) e s = (x, s)
+    go : (o : Option ℕ) → shown r o ≡ shown r (Some b) → Says P o → (x : ℕ) × P x
+    go None e s = absurd (let z : ◌≡◌ {A = ℕ} 0 1 = cc in omega arith)
+    go (Some x) e s = (x, s)
 
 -- the answer to a vote, by what is held
 answer_at : (r : Round) → Keeps r → (f : Frame) (h : Held) → frame r ≡ f → held r ≡ h → (v : Ballot)
     → (import_vote v.phase v.signer v.pair r).answer ≡ (import f v.phase v.signer v.pair h).answer
 unfolding import_vote imported
 answer_at r t f h e q v =
-    on_true (λ (x : Imported). x.answer ≡ (import f v.phase v.signer v.pair h).answer) (shaped r) (imported v.phase v.signer v.pair r) _ t
+    on_true (λ (x : After (Result ImportResult Refusal)). x.answer ≡ (import f v.phase v.signer v.pair h).answer) (shaped r) (imported v.phase v.signer v.pair r) _ t
     (ap (λ (x : Frame). (import x v.phase v.signer v.pair (held r)).answer) e ∙ ap (λ (x : Held). (import f v.phase v.signer v.pair x).answer) q)
 
 -- the first two votes of the worked round
@@ -92,7 +91,7 @@ two = record { phase = Prevote; signer = 2; pair = record { target = 12; number 
 abbrev once : Held
 once = taken (one ∷ []) stage (opened_held 0)
 
-counted : ((import stage Prevote 1 one.pair (opened_held 0)).answer ≡ vote.Counted) × ((import stage Prevote 2 two.pair once).answer ≡ vote.Counted)
+counted : ((import stage Prevote 1 one.pair (opened_held 0)).answer ≡ Ok vote.Counted) × ((import stage Prevote 2 two.pair once).answer ≡ Ok vote.Counted)
     × (once.count ≡ 1)
 unfolding
     below within sum all any taken layout.RUN layout.bit layout.index bit import judge judge_first look_up info recorded cast place_of columns.find columns.contains first set.new voters

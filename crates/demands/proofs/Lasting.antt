@@ -1,7 +1,6 @@
 -- Demand 3: nothing that the calls tell is taken back, whatever the voters weigh.
 use mathlib.Core.Bool.{Bool, true, false, cond, not, ◌&&◌}
 use mathlib.Core.List.{List}
-use mathlib.Core.Option.{Option, none, some}
 use mathlib.Core.Path.{◌≡◌, refl, sym, ap, subst, ◌∙◌}
 use mathlib.Core.Logic.{inl, inr}
 use Prim.Native.Nat.{ℕ, ◌≤◌, ◌<◌}
@@ -20,16 +19,12 @@ use Rattle.grandpa.specs.Time as time
 use Rattle.grandpa.specs.Time.{Down, Ordered}
 use Rattle.grandpa.proofs.Votes.{equivocators_grow}
 use Rattle.grandpa.proofs.Kept.{told_ordered}
-use Rattle.voter_info.specs.declared.Lookup.{Lookup}
-use Rattle.voter_info.specs.declared.Lookup.TheVariants.{Voter, Outside}
 use Rattle.voter_info.specs.Info.{look_up}
 use Rattle.voter_set.specs.declared.VoterSet.{VoterSet}
 use Rattle.blocks.specs.declared.BlockTable.{BlockTable}
 use Rattle.blocks.specs.Table.{Stands}
 use Rattle.context.specs.declared.Phase.{Phase}
 use Rattle.context.specs.declared.Phase.TheVariants.{Prevote, Precommit}
-use Rattle.nodes.specs.declared.Found.{Found}
-use Rattle.nodes.specs.declared.Found.TheVariants.{At, Nothing}
 use Rattle.nodes.specs.Nodes.{col}
 use Rattle.tracker.specs.declared.Pair.{Pair}
 use Rattle.judging.specs.Judge.{judge}
@@ -49,7 +44,6 @@ use Rattle.held_laws.proofs.Tells.{reached_tells}
 use Rattle.held_laws.proofs.Onward.{comes_grown}
 use Rattle.held_laws.proofs.Answered.{answered_stored}
 use Rattle.round.specs.declared.Round.{Round}
-use Rattle.round.specs.declared.Whether.TheVariants as whether
 use Rattle.round.specs.Shape.{frame, held}
 use Rattle.round.specs.Ask as ask
 use Rattle.round_laws.specs.Later.{Later, here, Reached, voters_of, blocks_of, votes_of, answers_of}
@@ -59,21 +53,23 @@ use Rattle.demands.specs.Third.{Below, Stays, Third, Demand3}
 use Rattle.demands.proofs.Asking.{no_number}
 use Rattle.demands.proofs.Shown.{ghost_shown, finalized_shown, estimate_shown, completable_yes}
 use Rattle.demands.proofs.Meant.{keeps, kept, whole, told_meant}
+use Rattle.std.specs.Prelude.{Option, Some, None, Ok}
+use Rattle.voter_info.specs.declared.VoterInfo.{VoterInfo}
 
 -- A round whose voters weigh nothing has no voter, takes no vote and tells nothing.
 
 abbrev pub nothing_told : Told
-nothing_told = record { ghost = none; finalized = none; estimate = none; completable = false }
+nothing_told = record { ghost = None; finalized = None; estimate = None; completable = false }
 
 module _ (f : Frame) (nobody : f.voters.count ≡ 0) where
   no_vote : (i : Held) (phase : Phase) (signer : ℕ) (p : Pair) → (import f phase signer p i).held ≡ i
   unfolding import judge
   no_vote i phase signer p = go (look_up f.voters.ids f.voters.weights f.voters.count signer) refl
     where
-      go : (l : Lookup) → look_up f.voters.ids f.voters.weights f.voters.count signer ≡ l
+      go : (l : Option VoterInfo) → look_up f.voters.ids f.voters.weights f.voters.count signer ≡ l
           → (apply f phase signer p i (verdict f phase signer p i)).held ≡ i
-      go (Voter v) e = absurd (omega (arith, nobody, position_inside f.voters.ids f.voters.weights f.voters.count signer v e))
-      go Outside e = rw e
+      go (Some v) e = absurd (omega (arith, nobody, position_inside f.voters.ids f.voters.weights f.voters.count signer v e))
+      go None e = rw e
 
 module _ (f : Frame) (nobody : f.voters.count ≡ 0) (h : Held) (e : answered h.answers ≡ nothing_told) where
   comes_silent : (g : Frame) (i : Held) → Comes f h g i → answered i.answers ≡ nothing_told
@@ -94,28 +90,28 @@ comes_ids f h k _ i (state.added g _ c id parent) x l =
 comes_ids f h k g _ (state.asked _ i c) x l = comes_ids f h k g i c x l
 
 -- A completable round has an estimate.
-settled_some : (b : Bool) (g : ℕ) (childless : Bool) (o : Option ℕ) → T (b && settled_at g childless o) → cond b o (some g) ≡ none → ⊥
+settled_some : (b : Bool) (g : ℕ) (childless : Bool) (o : Option ℕ) → T (b && settled_at g childless o) → cond b o (Some g) ≡ None → ⊥
 settled_some false g childless o c e = c
-settled_some true g childless none c e = c
-settled_some true g childless (some x) c e = no_number (sym e)
+settled_some true g childless None c e = c
+settled_some true g childless (Some x) c e = no_number (sym e)
 
 estimated : (vs : Voters) (t : Blocks) (base : ℕ) (pv pc : ℕ → Vote) (o : Option ℕ)
-    → T (told_from vs t base pv pc o).completable → (told_from vs t base pv pc o).estimate ≡ none → ⊥
+    → T (told_from vs t base pv pc o).completable → (told_from vs t base pv pc o).estimate ≡ None → ⊥
 unfolding told_from completable_of estimate_of
-estimated vs t base pv pc none c e = c
-estimated vs t base pv pc (some g) c e =
+estimated vs t base pv pc None c e = c
+estimated vs t base pv pc (Some g) c e =
     settled_some (leb (threshold (total vs)) (heard vs pc)) g
     (all t.count (λ k. not (child t.up g k && (with_node vs t pv pc k && possible_at vs t.up pc k))))
     (first_of t.up (possible_at vs t.up pc) base g) c e
 
 -- a stored block is in the table
 abbrev pub In : ℕ → Option ℕ → Type 0
-In n none = Unit {0}
-In n (some a) = a < n
+In n None = Unit {0}
+In n (Some a) = a < n
 
-pub seat_in : (parents : List ℕ) (base n : ℕ) (o : Found) → Seated parents base n o → In n (as_option o)
-seat_in parents base n Nothing s = tt
-seat_in parents base n (At b) s = s.0
+pub seat_in : (parents : List ℕ) (base n : ℕ) (o : Option ℕ) → Seated parents base n o → In n (as_option o)
+seat_in parents base n None s = tt
+seat_in parents base n (Some b) s = s.0
 
 module _ (r : Round) (reached : Reached r) where
   pub silent : r.context.voters.total ≡ 0 → answers_of r ≡ nothing_told
@@ -129,13 +125,13 @@ module _ (r : Round) (reached : Reached r) where
       none_there : Dec (r.context.voters.count ≡ 0) → r.context.voters.count ≡ 0
       none_there (yes q) = q
       none_there (no n) =
-          let some : 0 < r.context.voters.count = omega arith in
+          let Some : 0 < r.context.voters.count = omega arith in
           absurd (omega (
             arith,
             e,
             whole r reached,
-            (kept r reached).good.weigh_some 0 some,
-            sum_at r.context.voters.count (λ p. get_or r.context.voters.weights p 0) 0 some,
+            (kept r reached).good.weigh_some 0 Some,
+            sum_at r.context.voters.count (λ p. get_or r.context.voters.weights p 0) 0 Some,
           ))
 
   module _ (weighs : Weighs r) where
@@ -150,7 +146,7 @@ module _ (r : Round) (reached : Reached r) where
           within_stored (setting (frame r) (held r)) (kept_faithful (frame r) (held r) (kept r reached)) x.0 x.1.within,
         )
 
-    estimate_some : T r.answers.completable → (answers_of r).estimate ≡ none → ⊥
+    estimate_some : T r.answers.completable → (answers_of r).estimate ≡ None → ⊥
     estimate_some c e =
         let x = told_by in
         estimated (voters_of r) (blocks_of r) r.graph.base (votes_of r Prevote) (votes_of r Precommit) x.0
@@ -170,9 +166,9 @@ module _ (r s : Round) (more : r.table.count ≤ s.table.count)
 
   stays_by : (o p : Option ℕ) → In r.table.count o → In s.table.count p → Down (col s.table.parents) o p
       → Stays s.table (shown r o) (shown s p)
-  stays_by none p i j d = inl refl
-  stays_by (some a) none i j d = absurd d
-  stays_by (some a) (some b) i j d =
+  stays_by None p i j d = inl refl
+  stays_by (Some a) None i j d = absurd d
+  stays_by (Some a) (Some b) i j d =
       inr (record {
         id = _;
         number = _;
@@ -187,11 +183,11 @@ module _ (r s : Round) (more : r.table.count ≤ s.table.count)
         under = d;
       })
 
-  rises_by : (o p : Option ℕ) → (o ≡ none → ⊥) → In s.table.count o → In r.table.count p → Down (col s.table.parents) o p
+  rises_by : (o p : Option ℕ) → (o ≡ None → ⊥) → In s.table.count o → In r.table.count p → Down (col s.table.parents) o p
       → Below s.table (shown s o) (shown r p)
-  rises_by none p n i j d = absurd (n refl)
-  rises_by (some a) none n i j d = absurd d
-  rises_by (some a) (some b) n i j d =
+  rises_by None p n i j d = absurd (n refl)
+  rises_by (Some a) None n i j d = absurd d
+  rises_by (Some a) (Some b) n i j d =
       record {
         id = _;
         number = _;
@@ -237,7 +233,7 @@ module _ (r : Round) (reached : Reached r) (s : Round) (later : Later r s) where
     silent_s : answers_of s ≡ nothing_told
     silent_s = silent s reached_s (ap (λ (v : VoterSet). v.total) same_voters ∙ e)
 
-    not_completable : ask.completable r ≡ whether.Yes → ⊥
+    not_completable : ask.completable r ≡ Ok true → ⊥
     not_completable q = subst T (ap (λ (x : Told). x.completable) (silent r reached e)) ((completable_yes r (keeps r reached)).0 q)
 
     third_silent : Third r s
@@ -290,7 +286,7 @@ module _ (r : Round) (reached : Reached r) (s : Round) (later : Later r s) where
           estimate = λ f. stay.estimate (few_then f);
         }))
 
-    completable_then : Few Precommit s → ask.completable r ≡ whether.Yes → T s.answers.completable
+    completable_then : Few Precommit s → ask.completable r ≡ Ok true → T s.answers.completable
     completable_then few q = stay.completable (few_then few) ((completable_yes r (keeps r reached)).0 q)
 
     third_weighed : Third r s

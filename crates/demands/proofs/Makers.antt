@@ -1,6 +1,5 @@
 -- Document 02, R-3: what is told as final has precommit weight T or more now, whoever equivocated; so two such blocks that do not lie on one
 -- line have voters of more than F between the views.
-use mathlib.Core.Option.{Option, none, some}
 use mathlib.Core.Path.{◌≡◌, refl, sym, ap, subst, ◌∙◌}
 use Prim.Native.Nat.{ℕ, pred, ◌≤◌, ◌<◌}
 use native.Mathlib.Decide.{ℕ_discrete}
@@ -23,11 +22,9 @@ use Rattle.blocks.specs.Table.{Stands}
 use Rattle.context.specs.declared.Phase.TheVariants.{Prevote, Precommit}
 use Rattle.nodes.specs.Nodes.{col}
 use Rattle.round.specs.declared.Round.{Round}
-use Rattle.round.specs.declared.Told.TheVariants as told
 use Rattle.round.specs.Shape.{shaped}
 use Rattle.round.specs.Ask as ask
 use Rattle.round_laws.specs.Later.{Reached, voters_of, blocks_of, votes_of, answers_of}
-use Rattle.two_views.specs.declared.Views.TheVariants.{Weight, Refused}
 use Rattle.two_views.specs.Views.{agree, views}
 use Rattle.two_views.specs.One.{One}
 use Rattle.two_views.proofs.Agreements.{agree_means, means_agree}
@@ -38,42 +35,43 @@ use Rattle.demands.proofs.Asking.{no_number}
 use Rattle.demands.proofs.Shown.{finalized_shown}
 use Rattle.demands.proofs.Meant.{keeps, kept, whole}
 use Rattle.demands.proofs.Lasting.{silent, told_by, In, seat_in}
+use Rattle.std.specs.Prelude.{Option, Some, None, Ok, Err}
 
-no_block : {id n : ℕ} → told.Nothing ≡ told.Block id n → ⊥
+no_block : {id n : ℕ} → (Ok None) ≡ Ok (Some (id, n)) → ⊥
 no_block e = let z : ◌≡◌ {A = ℕ} 0 1 = cc in omega arith
 
-block_id : {id n i m : ℕ} → told.Block id n ≡ told.Block i m → id ≡ i
+block_id : {id n i m : ℕ} → Ok (Some (id, n)) ≡ Ok (Some (i, m)) → id ≡ i
 block_id e = cc
 
-no_weight : {n k : ℕ} → Refused n ≡ Weight k → ⊥
+no_weight : {n k : ℕ} → Err n ≡ Ok k → ⊥
 no_weight e = let z : ◌≡◌ {A = ℕ} 0 1 = cc in omega arith
 
-weight_is : {n k : ℕ} → Weight n ≡ Weight k → n ≡ k
+weight_is : {n k : ℕ} → Ok n ≡ Ok k → n ≡ k
 weight_is e = cc
 
 -- what is told as final from any GHOST has weight T or more
 told_weight : (vs : Voters) (t : Blocks) → ((k : ℕ) → t.up k ≤ pred k) → (base : ℕ) (pv pc : ℕ → Vote) (x : ℕ) (o : Option ℕ)
-    → time.Stored t base o → (told_from vs t base pv pc o).finalized ≡ some x → threshold (total vs) ≤ phase_weight vs t.up pc x
+    → time.Stored t base o → (told_from vs t base pv pc o).finalized ≡ Some x → threshold (total vs) ≤ phase_weight vs t.up pc x
 unfolding told_from
-told_weight vs t falls base pv pc x none s e = absurd (no_number e)
-told_weight vs t falls base pv pc x (some g) s e =
+told_weight vs t falls base pv pc x None s e = absurd (no_number e)
+told_weight vs t falls base pv pc x (Some g) s e =
     let f : Finalized vs t.up base pc g x =
     subst (Says (Finalized vs t.up base pc g)) e (finalized_says vs t.up falls base pc g s.1) in
     leb→le _ _ f.first.passes
 
 -- the place of a block that `finalized` tells
-module _ (r : Round) (reached : Reached r) (id n : ℕ) (final : ask.finalized r ≡ told.Block id n) where
-  final_at : (x : ℕ) × ((answers_of r).finalized ≡ some x)
+module _ (r : Round) (reached : Reached r) (id n : ℕ) (final : ask.finalized r ≡ Ok (Some (id, n))) where
+  final_at : (x : ℕ) × ((answers_of r).finalized ≡ Some x)
   final_at = go (answers_of r).finalized refl
     where
-      go : (o : Option ℕ) → (answers_of r).finalized ≡ o → (x : ℕ) × ((answers_of r).finalized ≡ some x)
-      go none q = absurd (no_block (sym (finalized_shown r (keeps r reached) ∙ ap (shown r) q) ∙ final))
-      go (some x) q = (x, q)
+      go : (o : Option ℕ) → (answers_of r).finalized ≡ o → (x : ℕ) × ((answers_of r).finalized ≡ Some x)
+      go None q = absurd (no_block (sym (finalized_shown r (keeps r reached) ∙ ap (shown r) q) ∙ final))
+      go (Some x) q = (x, q)
 
   pub place : ℕ
   place = final_at.0
 
-  stored : (answers_of r).finalized ≡ some place
+  stored : (answers_of r).finalized ≡ Some place
   unfolding place
   stored = final_at.1
 
@@ -100,7 +98,7 @@ module _ (r : Round) (reached : Reached r) (id n : ℕ) (final : ask.finalized r
       t.2 (sym (ap (λ (z : Told). z.finalized) t.1) ∙ stored)
 
 -- two views of one round
-module _ (a b : Round) (reached : Reached a) (reached_other : Reached b) (n : ℕ) (sums : views a b ≡ Weight n) where
+module _ (a b : Round) (reached : Reached a) (reached_other : Reached b) (n : ℕ) (sums : views a b ≡ Ok n) where
   one : One a b
   one = go (dec_T (agree a b))
     where
@@ -108,7 +106,7 @@ module _ (a b : Round) (reached : Reached a) (reached_other : Reached b) (n : �
       go (yes t) = agree_means a b t
       go (no f) = absurd (no_weight (sym (views_unlike a b (keeps a reached) (keeps b reached_other) (λ o. f (means_agree a b o))) ∙ sums))
 
-  sum_told : views a b ≡ Weight (two_views (voters_of a) (votes_of a Precommit) (votes_of b Precommit))
+  sum_told : views a b ≡ Ok (two_views (voters_of a) (votes_of a Precommit) (votes_of b Precommit))
   unfolding views
   sum_told = rw (true_T (shaped a) (keeps a reached), true_T (shaped b) (keeps b reached_other), true_T (agree a b) (means_agree a b one))
 

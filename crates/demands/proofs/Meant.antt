@@ -1,6 +1,5 @@
 -- Demand 2: what the calls tell of a reached round is what the definitions say of its recorded votes.
 use mathlib.Core.Bool.{Bool, false, cond}
-use mathlib.Core.Option.{Option, none, some}
 use mathlib.Core.Path.{◌≡◌, refl, sym, ap, subst, ◌∙◌}
 use mathlib.Core.Logic.{◌↔◌, inl, inr}
 use Prim.Native.Nat.{ℕ, pred, ◌≤◌, ◌<◌}
@@ -21,7 +20,6 @@ use Rattle.answer_laws.proofs.Ghosted.{votes_placed}
 use Rattle.held_laws.specs.Kept.{setting, Kept}
 use Rattle.held_laws.proofs.Parts.{kept_faithful}
 use Rattle.round.specs.declared.Round.{Round}
-use Rattle.round.specs.declared.Whether.TheVariants as whether
 use Rattle.round.specs.Shape.{frame, held}
 use Rattle.round.specs.Ask as ask
 use Rattle.round_laws.specs.Later.{Reached, voters_of, blocks_of, votes_of, answers_of}
@@ -30,12 +28,13 @@ use Rattle.round_laws.proofs.Lasting.{reached_shaped, reached_fits, answers_mean
 use Rattle.demands.specs.First.{Keeps}
 use Rattle.demands.specs.Second.{Weighs, Few, shown, meant, IsGhost, IsFinalized, IsEstimate, IsCompletable, IsCompletableNoded, Second, Demand2}
 use Rattle.demands.proofs.Shown.{ghost_shown, finalized_shown, estimate_shown, completable_shown, completable_yes, state_shown}
+use Rattle.std.specs.Prelude.{Option, Some, None, Ok, true}
 
 -- what is told from the one block of which P holds
 lift : (P : ℕ → Type 0) (Q : ℕ → ℕ → Type 0) → ((a b : ℕ) → P a → P b → a ≡ b) → (g : ℕ) → P g → (o : Option ℕ) → Says (Q g) o
     → Says (λ b. (h : ℕ) × P h × Q h b) o
-lift P Q only g p none n = λ x q. n x (subst (λ (h : ℕ). Q h x) (only q.0 g q.1 p) q.2)
-lift P Q only g p (some b) q = (g, p, q)
+lift P Q only g p None n = λ x q. n x (subst (λ (h : ℕ). Q h x) (only q.0 g q.1 p) q.2)
+lift P Q only g p (Some b) q = (g, p, q)
 
 module _ (r : Round) (reached : Reached r) where
   pub keeps : Keeps r
@@ -76,14 +75,14 @@ module _ (r : Round) (reached : Reached r) where
     Said x =
         Says (IsGhost r) x.ghost × Says (IsFinalized r) x.finalized × Says (IsEstimate r) x.estimate
         × (T x.completable ↔ IsCompletableNoded r)
-        × (((g : ℕ) → IsGhost r g → ⊥) → (x.ghost ≡ none) × (x.finalized ≡ none) × (x.estimate ≡ none) × (x.completable ≡ false))
+        × (((g : ℕ) → IsGhost r g → ⊥) → (x.ghost ≡ None) × (x.finalized ≡ None) × (x.estimate ≡ None) × (x.completable ≡ false))
 
     told_says : (o : Option ℕ) → Says (IsGhost r) o
         → Said (told_from (voters_of r) (blocks_of r) r.graph.base (votes_of r Prevote) (votes_of r Precommit) o)
     unfolding told_from
-    told_says none n =
+    told_says None n =
         (n, (λ x p. n p.0 p.1), (λ x p. n p.0 p.1), ((λ e. absurd e), λ p. absurd (n p.0 p.1)), λ f. (refl, refl, refl, refl))
-    told_says (some g) p = (
+    told_says (Some g) p = (
       p,
       lift (IsGhost r) (λ h b. Finalized (voters_of r) (blocks_of r).up r.graph.base (votes_of r Precommit) h b) only_ghost g p
           (finalized_of (voters_of r) (blocks_of r).up r.graph.base (votes_of r Precommit) g)
@@ -133,7 +132,7 @@ module _ (r : Round) (reached : Reached r) where
             forms_agree (voters_of r) (blocks_of r) falls some_weight r.graph.base (votes_of r Prevote) (votes_of r Precommit)
             (votes_placed (setting (frame r) (held r)) faith Precommit) (few_of Precommit few_precommits)
 
-    noded : (ask.completable r ≡ whether.Yes) ↔ IsCompletableNoded r
+    noded : (ask.completable r ≡ Ok true) ↔ IsCompletableNoded r
     noded = ((λ e. said.3.0 ((completable_yes r keeps).0 e)), λ c. (completable_yes r keeps).1 (said.3.1 c))
 
     answers : Second r
@@ -176,7 +175,7 @@ module _ (r : Round) (reached : Reached r) where
                 ghost_shown r keeps ∙ ap (shown r) n.0,
                 finalized_shown r keeps ∙ ap (shown r) n.1,
                 estimate_shown r keeps ∙ ap (shown r) n.2,
-                completable_shown r keeps ∙ ap (λ (b : Bool). cond b whether.Yes whether.No) n.3,
+                completable_shown r keeps ∙ ap (λ (b : Bool). cond b (Ok true) (Ok false)) n.3,
               );
           computed = told_meant;
         }

@@ -11,7 +11,6 @@ use lib.Seq.{get_or-set_same, get_or-set_other}
 use Rattle.sizes.specs.Sizes.{VOTES}
 use Rattle.loops.proofs.Tests.{true_T, false_not, dec_T, left_of, right_of}
 use Rattle.voter_info.specs.declared.VoterInfo.{VoterInfo}
-use Rattle.voter_info.specs.declared.Lookup.TheVariants.{Voter}
 use Rattle.voter_info.specs.Info.{look_up}
 use Rattle.voter_laws.proofs.Goods.{one_place}
 use Rattle.voter_laws.proofs.Lookups.{voter_at, get_says}
@@ -37,7 +36,6 @@ use Rattle.judging.specs.declared.Verdict.TheVariants as verdicts
 use Rattle.judging.proofs.Judged.{spoke_once, judged_first, judged_second}
 use Rattle.importing.specs.Import.{apply, import}
 use Rattle.round.specs.declared.Round.{Round}
-use Rattle.round.specs.declared.Imported.{Imported}
 use Rattle.round.specs.Shape.{frame, held, sized, shaped}
 use Rattle.round.specs.Calls.{imported, import_vote}
 use Rattle.round.proofs.Steps.{sized_says}
@@ -45,6 +43,9 @@ use Rattle.round_laws.proofs.Refusals.{import_nine}
 use Rattle.two_views.proofs.Rounds.{voters_good}
 use Rattle.demands.specs.First.{Keeps, VoterAt, recorded_of, FirstVote, Rule, refused, stranger, first, again, first_again, second_again, second, third, Records}
 use Rattle.demands.proofs.Voting.{judged, judged_by, aimed_first, answer_rule}
+use Rattle.std.specs.Prelude.{Some, Result, Ok}
+use Rattle.refusals.specs.declared.Refusal.{Refusal}
+use Rattle.round.specs.declared.After.{After}
 
 module _ (v : Votes) (ids numbers : List ℕ) (j : ℕ) where
   abbrev after_second : Pair → Votes
@@ -100,7 +101,7 @@ module _ (r : Round) (phase : Phase) (signer : ℕ) (p : Pair) where
   CountedBy = (f : FirstVote r phase signer) × (b : ℕ) × Stands r.table p.target b × (col r.table.numbers b ≡ p.number)
       × T (below (col r.table.parents) r.graph.base b)
 
-  pub counted_by : (a : ImportResult) → Rule r phase signer p a → a ≡ vote.Counted → CountedBy
+  pub counted_by : (a : Result ImportResult Refusal) → Rule r phase signer p a → a ≡ Ok vote.Counted → CountedBy
   counted_by _ (refused n d) q = absurd (let z : ◌≡◌ {A = ℕ} 0 1 = cc in omega arith)
   counted_by _ (stranger t f) q = absurd (let z : ◌≡◌ {A = ℕ} 0 1 = cc in omega arith)
   counted_by _ (first f b s e h) q = (f, b, s, e, h)
@@ -114,7 +115,7 @@ module _ (r : Round) (phase : Phase) (signer : ℕ) (p : Pair) where
   abbrev DoubledBy : Equivocation → Type 0
   DoubledBy x = (t : Keeps r) × (k : ℕ) × VoterAt r signer k × (recorded_of r phase k ≡ recorded.Single x.first) × (same x.first p ≡ false)
 
-  doubled_by : (x : Equivocation) (a : ImportResult) → Rule r phase signer p a → a ≡ vote.Equivocated x → DoubledBy x
+  doubled_by : (x : Equivocation) (a : Result ImportResult Refusal) → Rule r phase signer p a → a ≡ Ok (vote.Equivocated x) → DoubledBy x
   doubled_by x _ (refused n d) q = absurd (let z : ◌≡◌ {A = ℕ} 0 1 = cc in omega arith)
   doubled_by x _ (stranger t f) q = absurd (let z : ◌≡◌ {A = ℕ} 0 1 = cc in omega arith)
   doubled_by x _ (first f b s e h) q = absurd (let z : ◌≡◌ {A = ℕ} 0 1 = cc in omega arith)
@@ -145,7 +146,7 @@ module _ (r : Round) (phase : Phase) (signer : ℕ) (p : Pair) where
     the_place : (j k : ℕ) → VoterAt r signer j → VoterAt r signer k → j ≡ k
     the_place j k a b = one_place r.context.voters (voters_good r t) j k a.inside b.inside (a.named ∙ sym b.named)
 
-    apart : (v : VoterInfo) → look_up r.context.voters.ids r.context.voters.weights r.context.voters.count signer ≡ Voter v
+    apart : (v : VoterInfo) → look_up r.context.voters.ids r.context.voters.weights r.context.voters.count signer ≡ Some v
         → (other : Phase) (k : ℕ) → (other ≡ phase → VoterAt r signer k → ⊥) → bit other k ≢ bit phase v.position
     apart v e other k f q =
         let known = (get_says r.context.voters (voters_good r t) signer v e).0 in
@@ -163,7 +164,7 @@ module _ (r : Round) (phase : Phase) (signer : ℕ) (p : Pair) where
         second_there r.votes r.table.ids r.table.numbers (bit phase v.position) (bit other k)
         (apart v (judged_second r.context.voters.ids r.context.voters.weights r.context.voters.count r.table.ids r.table.numbers r.table.parents r.table.count r.graph.base r.votes phase signer p v a e).0 other k f) p
 
-  first_recorded : (import_vote phase signer p r).answer ≡ vote.Counted → (k : ℕ) → VoterAt r signer k
+  first_recorded : (import_vote phase signer p r).answer ≡ Ok vote.Counted → (k : ℕ) → VoterAt r signer k
       → recorded_of (import_vote phase signer p r).round phase k ≡ recorded.Single p
   first_recorded q k a =
       let c = counted_by (import_vote phase signer p r).answer (answer_rule r phase signer p) q in
@@ -178,7 +179,7 @@ module _ (r : Round) (phase : Phase) (signer : ℕ) (p : Pair) where
           → recorded.Single (record { target = col r.table.ids b; number = col r.table.numbers b; signature = p.signature }) ≡ recorded.Single p
       pair_is b i n = rw (i, n)
 
-  second_recorded : (x : Equivocation) → (import_vote phase signer p r).answer ≡ vote.Equivocated x → (k : ℕ) → VoterAt r signer k
+  second_recorded : (x : Equivocation) → (import_vote phase signer p r).answer ≡ Ok (vote.Equivocated x) → (k : ℕ) → VoterAt r signer k
       → recorded_of (import_vote phase signer p r).round phase k ≡ recorded.Equivocated x.first p
   second_recorded x q k a =
       let c = doubled_by x (import_vote phase signer p r).answer (answer_rule r phase signer p) q in
@@ -198,7 +199,7 @@ module _ (r : Round) (phase : Phase) (signer : ℕ) (p : Pair) where
     where
       go : Dec (T (shaped r)) → recorded_of (import_vote phase signer p r).round other k ≡ recorded_of r other k
       go (yes t) = recorded_next t (judged r phase signer p) refl other k ∙ others_by t (judged r phase signer p) refl other k f
-      go (no n) = ap (λ (x : Imported). recorded_of x.round other k) (import_nine r (false_not (shaped r) n) phase signer p)
+      go (no n) = ap (λ (x : After (Result ImportResult Refusal)). recorded_of x.round other k) (import_nine r (false_not (shaped r) n) phase signer p)
 
   pub vote_records : Records r phase signer p (import_vote phase signer p r)
   vote_records = record { first = first_recorded; second = second_recorded; others = others_stay }

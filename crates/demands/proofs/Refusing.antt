@@ -1,22 +1,15 @@
 -- Demand 1, for every public call and every round.
 use mathlib.Core.Bool.{Bool, true, false, cond}
-use mathlib.Core.Option.{none, some}
 use mathlib.Core.Path.{◌≡◌, refl, sym, ap, subst, ◌∙◌}
 use mathlib.Core.Logic.{◌↔◌}
 use Prim.Native.Nat.{ℕ}
 use native.Mathlib.Omega.{arith}
 use Rattle.loops.proofs.Tests.{T_true, true_T, false_not}
 use Rattle.voter_set.specs.declared.VoterSet.{VoterSet}
-use Rattle.voter_set.specs.declared.Nth.{Nth}
-use Rattle.voter_set.specs.declared.Nth.TheVariants as nth
 use Rattle.voter_set.specs.Good.{good}
 use Rattle.voter_set.specs.Lookup.{nth_mod}
 use Rattle.voter_laws.proofs.Goods.{good_means, means_good}
 use Rattle.blocks.specs.declared.BlockTable.{BlockTable}
-use Rattle.blocks.specs.declared.Place.{Place}
-use Rattle.blocks.specs.declared.Place.TheVariants as place
-use Rattle.blocks.specs.declared.Answer.{Answer}
-use Rattle.blocks.specs.declared.Answer.TheVariants as block
 use Rattle.blocks.specs.declared.Added.{Added}
 use Rattle.blocks.specs.Add.{place_of, on_place, step}
 use Rattle.block_shape.specs.Shape.{tabled}
@@ -25,25 +18,11 @@ use Rattle.block_table.specs.Add.{Due, add}
 use Rattle.block_laws.proofs.Adds.{due_answer, answer_due, stands_found, nothing_stands, stands_nothing}
 use Rattle.context.specs.declared.Phase.{Phase}
 use Rattle.context.specs.declared.Phase.TheVariants.{Prevote, Precommit}
-use Rattle.nodes.specs.declared.Found.{Found}
-use Rattle.nodes.specs.declared.Found.TheVariants as found
 use Rattle.tracker.specs.declared.Pair.{Pair}
 use Rattle.judging.specs.declared.ImportResult.{ImportResult}
 use Rattle.judging.specs.declared.ImportResult.TheVariants as vote
 use Rattle.held_laws.specs.Kept.{Kept, Untaken}
 use Rattle.round.specs.declared.Round.{Round}
-use Rattle.round.specs.declared.Kept as answer
-use Rattle.round.specs.declared.Grown.{Grown}
-use Rattle.round.specs.declared.Imported.{Imported}
-use Rattle.round.specs.declared.Asked.{Asked}
-use Rattle.round.specs.declared.Index.{Index}
-use Rattle.round.specs.declared.Index.TheVariants as index
-use Rattle.round.specs.declared.Voters.{Voters}
-use Rattle.round.specs.declared.Done.{Done}
-use Rattle.round.specs.declared.Done.TheVariants as done
-use Rattle.round.specs.declared.Told.{Told}
-use Rattle.round.specs.declared.Told.TheVariants as told
-use Rattle.round.specs.declared.Whether.TheVariants as whether
 use Rattle.round.specs.Shape.{frame, held, shaped}
 use Rattle.round.specs.Calls.{opened, not_opened, new, block_of, grown, add_block, imported, import_vote, sought, with_sought, precommit_ghost, marked, with_history, set_index}
 use Rattle.round.specs.Ask as ask
@@ -60,32 +39,36 @@ use Rattle.demands.proofs.Asking.{no_number, number_is, nine_exactly, reads, vot
 use Rattle.demands.proofs.Voting.{rules, vote_exactly}
 use Rattle.demands.proofs.Recording.{vote_records}
 use Rattle.demands.proofs.Heard.{prevotes_counted, precommits_counted}
+use Rattle.std.specs.Prelude.{Option, Some, None, Result, Ok, Err, ⊤}
+use Rattle.refusals.specs.declared.Refusal.{Refusal}
+use Rattle.voter_info.specs.declared.VoterInfo.{VoterInfo}
+use Rattle.round.specs.declared.After.{After}
 
 -- a number is told by a refusal alone
-refused_done : (x : Done) (n : ℕ) → by_done x ≡ some n → x ≡ done.Refused n
-refused_done done.Yes n e = absurd (no_number e)
-refused_done (done.Refused m) n e = ap done.Refused (number_is e)
+refused_done : (x : Result ⊤ Refusal) (n : ℕ) → by_done x ≡ Some n → x ≡ Err n
+refused_done (Ok tt) n e = absurd (no_number e)
+refused_done (Err m) n e = ap Err (number_is e)
 
-refused_block : (x : Answer) (n : ℕ) → by_block x ≡ some n → x ≡ block.Refused n
-refused_block (block.Placed k) n e = absurd (no_number e)
-refused_block (block.Refused m) n e = ap block.Refused (number_is e)
+refused_block : (x : Result ℕ Refusal) (n : ℕ) → by_block x ≡ Some n → x ≡ Err n
+refused_block (Ok k) n e = absurd (no_number e)
+refused_block (Err m) n e = ap Err (number_is e)
 
-refused_told : (x : Told) (n : ℕ) → by_told x ≡ some n → x ≡ told.Refused n
-refused_told (told.Block id k) n e = absurd (no_number e)
-refused_told told.Nothing n e = absurd (no_number e)
-refused_told (told.Refused m) n e = ap told.Refused (number_is e)
+refused_told : (x : Result (Option (ℕ × ℕ)) Refusal) (n : ℕ) → by_told x ≡ Some n → x ≡ Err n
+refused_told (Ok (Some (id, k))) n e = absurd (no_number e)
+refused_told (Ok None) n e = absurd (no_number e)
+refused_told (Err m) n e = ap Err (number_is e)
 
-untaken : (x : ImportResult) (n : ℕ) → by_vote x ≡ some n → Untaken x
-untaken vote.Outside n e = tt
-untaken vote.Counted n e = absurd (no_number e)
-untaken vote.Duplicated n e = tt
-untaken (vote.Equivocated q) n e = absurd (no_number e)
-untaken vote.Ignored n e = tt
-untaken (vote.Refused m) n e = tt
+untaken : (x : Result ImportResult Refusal) (n : ℕ) → by_vote x ≡ Some n → Untaken x
+untaken (Ok vote.Outside) n e = tt
+untaken (Ok vote.Counted) n e = absurd (no_number e)
+untaken (Ok vote.Duplicated) n e = tt
+untaken (Ok (vote.Equivocated q)) n e = absurd (no_number e)
+untaken (Ok vote.Ignored) n e = tt
+untaken (Err m) n e = tt
 
-block_quiet : (r : Round) (o : Found) → by_told (block_of r.table.ids r.table.numbers o) ≡ none
-block_quiet r (found.At b) = refl
-block_quiet r found.Nothing = refl
+block_quiet : (r : Round) (o : Option ℕ) → by_told (block_of r.table.ids r.table.numbers o) ≡ None
+block_quiet r (Some b) = refl
+block_quiet r None = refl
 
 -- beside a refused `new` stands a round that every call refuses
 not_opened_breaks : (n : ℕ) → Breaks (not_opened n).round
@@ -93,34 +76,34 @@ unfolding opened
 not_opened_breaks n = false_not (shaped (not_opened n).round) (λ t. omega (arith, (graph_kept (not_opened n).round t).table.rooted))
 
 module _ (number : ℕ) (voters : VoterSet) (table : BlockTable) (base : ℕ) where
-  abbrev outcome : Bool → Bool → Place → answer.Kept
+  abbrev outcome : Bool → Bool → Option ℕ → (After (Result ⊤ Refusal))
   outcome a b p =
-      cond a (cond b (on_place p (λ k. record { answer = done.Yes; round = opened number voters table k }) (not_opened 10)) (not_opened 9)) (not_opened 9)
+      cond a (cond b (on_place p (λ k. record { answer = Ok tt; round = opened number voters table k }) (not_opened 10)) (not_opened 9)) (not_opened 9)
 
   -- a refusal that is due, and what stands beside it
-  abbrev Refusal : answer.Kept → Type 0
-  Refusal x = (n : ℕ) → by_done x.answer ≡ some n → NewDue voters table base n × Breaks x.round
+  abbrev Refusal : After (Result ⊤ Refusal) → Type 0
+  Refusal x = (n : ℕ) → by_done x.answer ≡ Some n → NewDue voters table base n × Breaks x.round
 
   new_refusal : Refusal (new number voters table base)
   unfolding new
   new_refusal = go (good voters) refl (tabled table) refl (place_of table.ids table.count base) refl
     where
-      go : (a : Bool) → good voters ≡ a → (b : Bool) → tabled table ≡ b → (p : Place) → place_of table.ids table.count base ≡ p
+      go : (a : Bool) → good voters ≡ a → (b : Bool) → tabled table ≡ b → (p : Option ℕ) → place_of table.ids table.count base ≡ p
           → Refusal (outcome a b p)
-      go true s true t (place.At k) e n q = absurd (no_number q)
-      go true s true t place.Nothing e n q = (
+      go true s true t (Some k) e n q = absurd (no_number q)
+      go true s true t None e n q = (
         subst (NewDue voters table base) (number_is q) (no_base s (T_true t) (nothing_stands table (tabled_shaped table (T_true t)) base e)),
         not_opened_breaks 10,
       )
       go true s false t p e n q = (subst (NewDue voters table base) (number_is q) (table_misshaped t), not_opened_breaks 9)
       go false s b t p e n q = (subst (NewDue voters table base) (number_is q) (voters_misshaped s), not_opened_breaks 9)
 
-  refusal_new : (n : ℕ) → NewDue voters table base n → by_done (new number voters table base).answer ≡ some n
+  refusal_new : (n : ℕ) → NewDue voters table base n → by_done (new number voters table base).answer ≡ Some n
   unfolding new
   refusal_new _ (voters_misshaped e) = rw e
   refusal_new _ (table_misshaped e) = go (good voters)
     where
-      go : (a : Bool) → by_done (outcome a (tabled table) (place_of table.ids table.count base)).answer ≡ some 9
+      go : (a : Bool) → by_done (outcome a (tabled table) (place_of table.ids table.count base)).answer ≡ Some 9
       go true = rw e
       go false = refl
   refusal_new _ (no_base s t f) = rw (s, true_T (tabled table) t, stands_nothing table (tabled_shaped table t) base f)
@@ -147,30 +130,30 @@ module _ (r : Round) where
   add_step t id parent = rw (true_T (tabled r.table) (shaped_tabled r.table (graph_kept r t).table))
 
   pub add_changes : (id parent : ℕ)
-      → Changes r (λ (x : Grown). by_block x.answer) (λ (x : Grown). x.round) (BlockDue r id parent) (add_block id parent r)
+      → Changes r (λ (x : After (Result ℕ Refusal)). by_block x.answer) (λ (x : After (Result ℕ Refusal)). x.round) (BlockDue r id parent) (add_block id parent r)
       (grown r (step r.table id parent))
   unfolding add_block
   add_changes id parent =
       record {
         refuses = λ n. (to n, fro n);
         equal = λ n q. add_equal r id parent n (refused_block (add_block id parent r).answer n q);
-        steps = λ t. on_true (λ (x : Grown). x ≡ grown r (step r.table id parent)) (shaped r) _ _ t refl;
+        steps = λ t. on_true (λ (x : After (Result ℕ Refusal)). x ≡ grown r (step r.table id parent)) (shaped r) _ _ t refl;
         keeps = λ fits t. add_shaped r fits t id parent;
       }
     where
-      to : (n : ℕ) → by_block (add_block id parent r).answer ≡ some n → BlockDue r id parent n
+      to : (n : ℕ) → by_block (add_block id parent r).answer ≡ Some n → BlockDue r id parent n
       to n =
-          on_test (λ (x : Grown). by_block x.answer ≡ some n → BlockDue r id parent n) (shaped r) (grown r (step r.table id parent)) _
+          on_test (λ (x : After (Result ℕ Refusal)). by_block x.answer ≡ Some n → BlockDue r id parent n) (shaped r) (grown r (step r.table id parent)) _
           (λ e q. by_table n (T_true e)
           (subst (Due r.table id parent) (ap (λ (x : Added). x.answer) (add_step (T_true e) id parent) ∙ refused_block _ n q)
           (answer_due r.table id parent)))
           (λ e q. subst (BlockDue r id parent) (number_is q) (misshaped e))
 
-      fro : (n : ℕ) → BlockDue r id parent n → by_block (add_block id parent r).answer ≡ some n
+      fro : (n : ℕ) → BlockDue r id parent n → by_block (add_block id parent r).answer ≡ Some n
       fro _ (misshaped e) = rw e
       fro _ (by_table n t d) =
-          on_true (λ (x : Grown). by_block x.answer ≡ some n) (shaped r) (grown r (step r.table id parent)) _ t
-          (ap by_block (ap (λ (x : Added). x.answer) (sym (add_step t id parent)) ∙ due_answer r.table id parent (block.Refused n) d))
+          on_true (λ (x : After (Result ℕ Refusal)). by_block x.answer ≡ Some n) (shaped r) (grown r (step r.table id parent)) _ t
+          (ap by_block (ap (λ (x : Added). x.answer) (sym (add_step t id parent)) ∙ due_answer r.table id parent (Err n) d))
 
   -- a vote
   pub vote_takes : (phase : Phase) (signer : ℕ) (p : Pair) → Takes r phase signer p
@@ -180,46 +163,46 @@ module _ (r : Round) where
         changes = record {
           refuses = vote_exactly r phase signer p;
           equal = λ n q. import_equal r phase signer p (untaken (import_vote phase signer p r).answer n q);
-          steps = λ t. on_true (λ (x : Imported). x ≡ imported phase signer p r) (shaped r) _ _ t refl;
+          steps = λ t. on_true (λ (x : After (Result ImportResult Refusal)). x ≡ imported phase signer p r) (shaped r) _ _ t refl;
           keeps = λ fits t. import_shaped r fits t phase signer p;
         };
         promised = record { rule = rules r phase signer p; records = vote_records r phase signer p; equal = import_equal r phase signer p };
       }
 
   pub ghost_changes :
-      Changes r (λ (x : Asked). by_told x.answer) (λ (x : Asked). x.round) (Nine r) (precommit_ghost r) (with_sought r (sought r))
+      Changes r (λ (x : After (Result (Option (ℕ × ℕ)) Refusal)). by_told x.answer) (λ (x : After (Result (Option (ℕ × ℕ)) Refusal)). x.round) (Nine r) (precommit_ghost r) (with_sought r (sought r))
   unfolding precommit_ghost
   ghost_changes =
       record {
-        refuses = nine_exactly r (λ (x : Asked). by_told x.answer) (with_sought r (sought r)) _ (block_quiet r (sought r)) refl;
+        refuses = nine_exactly r (λ (x : After (Result (Option (ℕ × ℕ)) Refusal)). by_told x.answer) (with_sought r (sought r)) _ (block_quiet r (sought r)) refl;
         equal = λ n q. ghost_equal r n (refused_told (precommit_ghost r).answer n q);
-        steps = λ t. on_true (λ (x : Asked). x ≡ with_sought r (sought r)) (shaped r) _ _ t refl;
+        steps = λ t. on_true (λ (x : After (Result (Option (ℕ × ℕ)) Refusal)). x ≡ with_sought r (sought r)) (shaped r) _ _ t refl;
         keeps = λ fits t. ghost_shaped r fits t;
       }
 
   pub index_changes : (phase : Phase)
-      → Changes r (λ (x : answer.Kept). by_done x.answer) (λ (x : answer.Kept). x.round) (Nine r) (set_index phase r)
-      (record { answer = done.Yes; round = with_history r (marked phase r.history) })
+      → Changes r (λ (x : After (Result ⊤ Refusal)). by_done x.answer) (λ (x : After (Result ⊤ Refusal)). x.round) (Nine r) (set_index phase r)
+      (record { answer = Ok tt; round = with_history r (marked phase r.history) })
   unfolding set_index
   index_changes phase =
       record {
-        refuses = nine_exactly r (λ (x : answer.Kept). by_done x.answer) _ _ refl refl;
+        refuses = nine_exactly r (λ (x : After (Result ⊤ Refusal)). by_done x.answer) _ _ refl refl;
         equal = λ n q. index_equal r phase n (refused_done (set_index phase r).answer n q);
-        steps = λ t. on_true (λ (x : answer.Kept). x ≡ record { answer = done.Yes; round = with_history r (marked phase r.history) }) (shaped r) _ _ t refl;
+        steps = λ t. on_true (λ (x : After (Result ⊤ Refusal)). x ≡ record { answer = Ok tt; round = with_history r (marked phase r.history) }) (shaped r) _ _ t refl;
         keeps = λ fits t. index_shaped r fits t phase;
       }
 
-  index_quiet : (i : Index) → by_number (ask.index_number i) ≡ none
-  index_quiet (index.At n) = refl
-  index_quiet index.Nothing = refl
+  index_quiet : (i : Option ℕ) → by_number (ask.index_number i) ≡ None
+  index_quiet (Some n) = refl
+  index_quiet None = refl
 
-  whether_quiet : (b : Bool) → by_whether (cond b whether.Yes whether.No) ≡ none
+  whether_quiet : (b : Bool) → by_whether (cond b (Ok true) (Ok false)) ≡ None
   whether_quiet true = refl
   whether_quiet false = refl
 
-  primary_quiet : (x : Nth) → by_primary (ask.primary_of x) ≡ none
-  primary_quiet (nth.Place id info) = refl
-  primary_quiet nth.Beyond = refl
+  primary_quiet : (x : Option (ℕ × VoterInfo)) → by_primary (ask.primary_of x) ≡ None
+  primary_quiet (Some (id, info)) = refl
+  primary_quiet None = refl
 
   calls : First r
   unfolding ask.number ask.threshold ask.prevoted_index ask.precommitted_index ask.completable ask.estimate ask.finalized ask.base ask.prevote_participation ask.precommit_participation ask.primary_voter ask.state ask.voters
@@ -246,7 +229,7 @@ module _ (r : Round) where
         precommits_heard = precommits_counted r;
         primary_voter = reads r by_primary _ _ (primary_quiet (nth_mod r.context.voters r.number)) refl;
         state = reads r by_state _ _ refl refl;
-        voters = reads r (λ (x : Voters). by_done x.answer) _ _ refl refl;
+        voters = reads r (λ (x : Result VoterSet Refusal). by_done x.answer) _ _ refl refl;
         votes = λ phase out. votes_lists r out phase;
         historical_votes = history_lists r;
         finalizing_precommits = final_lists r;

@@ -6,25 +6,22 @@ use Prim.Native.Nat.{ℕ}
 use native.Mathlib.Omega.{arith}
 use lib.Dec.{T}
 use Rattle.loops.proofs.Tests.{true_T}
-use Rattle.nodes.specs.declared.Found.{Found}
-use Rattle.nodes.specs.declared.Found.TheVariants.{At, Nothing}
 use Rattle.held_laws.specs.Answered.{as_option}
 use Rattle.round.specs.declared.Round.{Round}
-use Rattle.round.specs.declared.Whether.TheVariants as whether
-use Rattle.round.specs.declared.Answered.TheVariants as answered
 use Rattle.round.specs.Shape.{shaped}
 use Rattle.round.specs.Calls.{block_of}
 use Rattle.round.specs.Ask.{state, state_of, finalized, estimate, completable}
 use Rattle.round_laws.specs.Later.{answers_of}
 use Rattle.demands.specs.First.{Keeps}
 use Rattle.demands.specs.Second.{shown, ghost_told}
+use Rattle.std.specs.Prelude.{Option, Some, None, Ok}
 
-block_shown : (r : Round) (o : Found) → block_of r.table.ids r.table.numbers o ≡ shown r (as_option o)
-block_shown r (At b) = refl
-block_shown r Nothing = refl
+block_shown : (r : Round) (o : Option ℕ) → block_of r.table.ids r.table.numbers o ≡ shown r (as_option o)
+block_shown r (Some b) = refl
+block_shown r None = refl
 
 module _ (r : Round) (t : Keeps r) where
-  state_is : state r ≡ answered.Is (state_of r)
+  state_is : state r ≡ Ok (state_of r)
   unfolding state
   state_is = rw (true_T (shaped r) t)
 
@@ -45,12 +42,12 @@ module _ (r : Round) (t : Keeps r) where
   pub estimate_shown : estimate r ≡ shown r (answers_of r).estimate
   estimate_shown = estimate_is ∙ block_shown r r.answers.estimate
 
-  pub completable_shown : completable r ≡ cond r.answers.completable whether.Yes whether.No
+  pub completable_shown : completable r ≡ cond r.answers.completable (Ok true) (Ok false)
   unfolding completable
   completable_shown = rw (true_T (shaped r) t)
 
   pub state_shown : state r
-      ≡ answered.Is (record {
+      ≡ Ok (record {
         prevote = ghost_told (state r);
         finalized = finalized r;
         estimate = estimate r;
@@ -58,9 +55,9 @@ module _ (r : Round) (t : Keeps r) where
       })
   state_shown = rw (state_is, finalized_is, estimate_is)
 
-  yes_or_no : (b : Bool) → (cond b whether.Yes whether.No ≡ whether.Yes) ↔ T b
+  yes_or_no : (b : Bool) → (cond b (Ok true) (Ok false) ≡ Ok true) ↔ T b
   yes_or_no true = ((λ e. tt), λ e. refl)
   yes_or_no false = ((λ e. absurd (let z : ◌≡◌ {A = ℕ} 0 1 = cc in omega arith)), λ e. absurd e)
 
-  pub completable_yes : (completable r ≡ whether.Yes) ↔ T r.answers.completable
+  pub completable_yes : (completable r ≡ Ok true) ↔ T r.answers.completable
   completable_yes = rw completable_shown (yes_or_no r.answers.completable)

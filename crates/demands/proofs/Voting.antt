@@ -1,6 +1,5 @@
 -- The answer to a vote is the one whose rule holds, on every round; so 9, 11, 12 and 13 are given exactly when they are due.
 use mathlib.Core.Bool.{Bool, true, false, cond}
-use mathlib.Core.Option.{some}
 use mathlib.Core.Path.{◌≡◌, refl, sym, ap, subst, ◌∙◌}
 use mathlib.Core.Logic.{◌≢◌, ◌⊎◌, inl, inr, ◌↔◌}
 use Prim.Native.Nat.{ℕ}
@@ -9,11 +8,8 @@ use lib.Dec.{T}
 use borrow.Author.Tests.{eq-eqb, ne_eqb}
 use Rattle.loops.proofs.Tests.{true_T, false_not, dec_T}
 use Rattle.grandpa.specs.Tree.{below}
-use Rattle.voter_info.specs.declared.Lookup.TheVariants.{Voter, Outside}
 use Rattle.voter_set.specs.Lookup.{get}
 use Rattle.voter_laws.proofs.Lookups.{voter_at, Known, Unknown, get_voter, get_outside, get_cases}
-use Rattle.blocks.specs.declared.Place.{Place}
-use Rattle.blocks.specs.declared.Place.TheVariants as place
 use Rattle.blocks.specs.Table.{Stands, Absent}
 use Rattle.blocks.specs.Add.{place_of}
 use Rattle.block_laws.proofs.Adds.{found_stands, stands_found, nothing_stands, stands_nothing}
@@ -37,12 +33,15 @@ use Rattle.two_views.proofs.Rounds.{voters_good}
 use Rattle.demands.specs.Refusals.{by_vote}
 use Rattle.demands.specs.First.{Keeps, Exactly, VoterAt, recorded_of, FirstVote, VoteDue, misshaped, unknown, wrong_number, off_the_base, Rule, refused, stranger, first, again, first_again, second_again, second, third}
 use Rattle.demands.proofs.Asking.{no_number, number_is}
+use Rattle.std.specs.Prelude.{Option, Some, None, Result, Ok, Err}
+use Rattle.refusals.specs.declared.Refusal.{Refusal}
+use Rattle.refusals.specs.declared.Refusal.TheVariants.{OffTheBase, UnknownTarget, WrongNumber, Misshapen}
 
 module _ (r : Round) (phase : Phase) (signer : ℕ) (p : Pair) where
   abbrev pub judged : Verdict
   judged = verdict (frame r) phase signer p (held r)
 
-  abbrev answer_by : Verdict → ImportResult
+  abbrev answer_by : Verdict → Result ImportResult Refusal
   answer_by d = (apply (frame r) phase signer p (held r) d).answer
 
   -- what is due to a first vote of the voter at place k
@@ -55,18 +54,18 @@ module _ (r : Round) (phase : Phase) (signer : ℕ) (p : Pair) where
     unfolding import_vote imported import
     answered d e = rw (true_T (shaped r) t) (ap answer_by e)
 
-    judged_outside : ((k : ℕ) → VoterAt r signer k → ⊥) → judged ≡ verdicts.Nothing vote.Outside
+    judged_outside : ((k : ℕ) → VoterAt r signer k → ⊥) → judged ≡ verdicts.Nothing (Ok vote.Outside)
     unfolding judge
     judged_outside f =
-        let q : get r.context.voters signer ≡ Outside =
+        let q : get r.context.voters signer ≡ None =
         get_outside r.context.voters (voters_good r t) signer (λ k h e. f k (record { inside = h; named = e })) in
         rw q
 
     judged_voter : (k : ℕ) → VoterAt r signer k → judged ≡ by_rule (add_vote (recorded_of r phase k) p) (aimed k) (voter_at r.context.voters k)
     unfolding judge
     judged_voter k v =
-        let q : get r.context.voters signer ≡ Voter (voter_at r.context.voters k) =
-        subst (λ (x : ℕ). get r.context.voters x ≡ Voter (voter_at r.context.voters k)) v.named
+        let q : get r.context.voters signer ≡ Some (voter_at r.context.voters k) =
+        subst (λ (x : ℕ). get r.context.voters x ≡ Some (voter_at r.context.voters k)) v.named
         (get_voter r.context.voters (voters_good r t) k v.inside) in
         rw q
 
@@ -76,17 +75,17 @@ module _ (r : Round) (phase : Phase) (signer : ℕ) (p : Pair) where
         judged_voter k v ∙ ap (λ (x : VoteMultiplicity). by_rule (add_vote x p) (aimed k) (voter_at r.context.voters k)) e
 
     -- a first vote's target
-    aimed_unknown : (k : ℕ) → Absent r.table p.target → aimed k ≡ verdicts.Nothing (vote.Refused 11)
+    aimed_unknown : (k : ℕ) → Absent r.table p.target → aimed k ≡ verdicts.Nothing (Err UnknownTarget)
     unfolding judge_first
     aimed_unknown k f = rw (stands_nothing r.table (graph_kept r t).table p.target f)
 
     aimed_number : (k b : ℕ) → Stands r.table p.target b → col r.table.numbers b ≢ p.number
-        → aimed k ≡ verdicts.Nothing (vote.Refused 12)
+        → aimed k ≡ verdicts.Nothing (Err WrongNumber)
     unfolding judge_first
     aimed_number k b s n = rw (stands_found r.table (graph_kept r t).table p.target b s, ne_eqb _ _ n)
 
     aimed_off : (k b : ℕ) → Stands r.table p.target b → col r.table.numbers b ≡ p.number
-        → (T (below (col r.table.parents) r.graph.base b) → ⊥) → aimed k ≡ verdicts.Nothing (vote.Refused 13)
+        → (T (below (col r.table.parents) r.graph.base b) → ⊥) → aimed k ≡ verdicts.Nothing (Err OffTheBase)
     unfolding judge_first
     aimed_off k b s e f =
         rw (
@@ -111,18 +110,18 @@ module _ (r : Round) (phase : Phase) (signer : ℕ) (p : Pair) where
 
       once_answer : (a : Pair) → recorded_of r phase k ≡ recorded.Single a → (b : Bool) → same a p ≡ b
           → (import_vote phase signer p r).answer
-          ≡ answer_by (cond b (verdicts.Nothing vote.Duplicated) (verdicts.Second (voter_at r.context.voters k) a))
-      once_answer a e true q = answered (verdicts.Nothing vote.Duplicated) (judged_by k v (recorded.Single a) e ∙ rw q)
+          ≡ answer_by (cond b (verdicts.Nothing (Ok vote.Duplicated)) (verdicts.Second (voter_at r.context.voters k) a))
+      once_answer a e true q = answered (verdicts.Nothing (Ok vote.Duplicated)) (judged_by k v (recorded.Single a) e ∙ rw q)
       once_answer a e false q = answered (verdicts.Second (voter_at r.context.voters k) a) (judged_by k v (recorded.Single a) e ∙ rw q)
 
       twice_answer : (a b : Pair) → recorded_of r phase k ≡ recorded.Equivocated a b → (x y : Bool) → same a p ≡ x → same b p ≡ y
-          → (import_vote phase signer p r).answer ≡ cond x vote.Duplicated (cond y vote.Duplicated vote.Ignored)
-      twice_answer a b e true y q s = answered (verdicts.Nothing vote.Duplicated) (judged_by k v (recorded.Equivocated a b) e ∙ rw q)
-      twice_answer a b e false true q s = answered (verdicts.Nothing vote.Duplicated) (judged_by k v (recorded.Equivocated a b) e ∙ rw (q, s))
-      twice_answer a b e false false q s = answered (verdicts.Nothing vote.Ignored) (judged_by k v (recorded.Equivocated a b) e ∙ rw (q, s))
+          → (import_vote phase signer p r).answer ≡ cond x (Ok vote.Duplicated) (cond y (Ok vote.Duplicated) (Ok vote.Ignored))
+      twice_answer a b e true y q s = answered (verdicts.Nothing (Ok vote.Duplicated)) (judged_by k v (recorded.Equivocated a b) e ∙ rw q)
+      twice_answer a b e false true q s = answered (verdicts.Nothing (Ok vote.Duplicated)) (judged_by k v (recorded.Equivocated a b) e ∙ rw (q, s))
+      twice_answer a b e false false q s = answered (verdicts.Nothing (Ok vote.Ignored)) (judged_by k v (recorded.Equivocated a b) e ∙ rw (q, s))
 
   -- the rule that holds gives the answer
-  due_refusal : (n : ℕ) → VoteDue r phase signer p n → (import_vote phase signer p r).answer ≡ vote.Refused n
+  due_refusal : (n : ℕ) → VoteDue r phase signer p n → (import_vote phase signer p r).answer ≡ Err n
   unfolding import_vote
   due_refusal _ (misshaped e) = rw e
   due_refusal _ (unknown f a) = first_answer f.keeps f.place f.voter f.silent _ (aimed_unknown f.keeps f.place a)
@@ -131,7 +130,7 @@ module _ (r : Round) (phase : Phase) (signer : ℕ) (p : Pair) where
   due_refusal _ (off_the_base f b s e o) =
       first_answer f.keeps f.place f.voter f.silent _ (aimed_off f.keeps f.place b s e o)
 
-  pub rule_answer : (a : ImportResult) → Rule r phase signer p a → (import_vote phase signer p r).answer ≡ a
+  pub rule_answer : (a : Result ImportResult Refusal) → Rule r phase signer p a → (import_vote phase signer p r).answer ≡ a
   rule_answer _ (refused n d) = due_refusal n d
   rule_answer _ (stranger t f) = answered t _ (judged_outside t f)
   rule_answer _ (first f b s e h) =
@@ -149,22 +148,22 @@ module _ (r : Round) (phase : Phase) (signer : ℕ) (p : Pair) where
       Held : Type 0
       Held = Rule r phase signer p (import_vote phase signer p r).answer
 
-      holds : {a : ImportResult} → Rule r phase signer p a → Held
+      holds : {a : Result ImportResult Refusal} → Rule r phase signer p a → Held
       holds {a} d = subst (Rule r phase signer p) (sym (rule_answer a d)) d
 
       inside : (f : FirstVote r phase signer) (b : ℕ) → Stands r.table p.target b → col r.table.numbers b ≡ p.number
           → Dec (T (below (col r.table.parents) r.graph.base b)) → Held
       inside f b s e (yes h) = holds (first f b s e h)
-      inside f b s e (no h) = holds (refused 13 (off_the_base f b s e h))
+      inside f b s e (no h) = holds (refused OffTheBase (off_the_base f b s e h))
 
       numbered : (f : FirstVote r phase signer) (b : ℕ) → Stands r.table p.target b → Dec (col r.table.numbers b ≡ p.number) → Held
       numbered f b s (yes e) = inside f b s e (dec_T (below (col r.table.parents) r.graph.base b))
-      numbered f b s (no e) = holds (refused 12 (wrong_number f b s e))
+      numbered f b s (no e) = holds (refused WrongNumber (wrong_number f b s e))
 
-      target : (f : FirstVote r phase signer) (o : Place) → place_of r.table.ids r.table.count p.target ≡ o → Held
-      target f (place.At b) e =
+      target : (f : FirstVote r phase signer) (o : Option ℕ) → place_of r.table.ids r.table.count p.target ≡ o → Held
+      target f (Some b) e =
           numbered f b (found_stands r.table (graph_kept r f.keeps).table p.target b e) (ℕ_discrete (col r.table.numbers b) p.number)
-      target f place.Nothing e = holds (refused 11 (unknown f (nothing_stands r.table (graph_kept r f.keeps).table p.target e)))
+      target f None e = holds (refused UnknownTarget (unknown f (nothing_stands r.table (graph_kept r f.keeps).table p.target e)))
 
       twice : (t : Keeps r) (k : ℕ) (v : VoterAt r signer k) (a b : Pair) → recorded_of r phase k ≡ recorded.Equivocated a b
           → (x : Bool) → same a p ≡ x → (y : Bool) → same b p ≡ y → Held
@@ -189,12 +188,12 @@ module _ (r : Round) (phase : Phase) (signer : ℕ) (p : Pair) where
 
       shape : Dec (T (shaped r)) → Held
       shape (yes t) = voter t (get_cases r.context.voters (voters_good r t) signer)
-      shape (no n) = holds (refused 9 (misshaped (false_not (shaped r) n)))
+      shape (no n) = holds (refused Misshapen (misshaped (false_not (shaped r) n)))
 
-  pub rules : (a : ImportResult) → ((import_vote phase signer p r).answer ≡ a) ↔ Rule r phase signer p a
+  pub rules : (a : Result ImportResult Refusal) → ((import_vote phase signer p r).answer ≡ a) ↔ Rule r phase signer p a
   rules a = ((λ e. subst (Rule r phase signer p) e answer_rule), rule_answer a)
 
-  refusal_due : (a : ImportResult) → Rule r phase signer p a → (n : ℕ) → by_vote a ≡ some n → VoteDue r phase signer p n
+  refusal_due : (a : Result ImportResult Refusal) → Rule r phase signer p a → (n : ℕ) → by_vote a ≡ Some n → VoteDue r phase signer p n
   refusal_due _ (refused m d) n e = subst (VoteDue r phase signer p) (number_is e) d
   refusal_due _ (stranger t f) n e = absurd (no_number e)
   refusal_due _ (first f b s q h) n e = absurd (no_number e)

@@ -1,5 +1,4 @@
 -- A set that `VoterSet::new` made weighs something; an empty one of anyone's making is why demand 2 says so.
-use mathlib.Core.Option.{none, some}
 use mathlib.Core.Path.{◌≡◌, refl, sym, ap, subst, ◌∙◌}
 use Prim.Native.Nat.{◌≤◌, ◌<◌}
 use native.Mathlib.Omega.{arith}
@@ -20,7 +19,6 @@ use Rattle.block_table.specs.Add as blocks
 use Rattle.context.specs.declared.Phase.{Phase}
 use Rattle.importing.specs.Import.{Frame}
 use Rattle.round.specs.declared.Round.{Round}
-use Rattle.round.specs.declared.Done.TheVariants.{Yes}
 use Rattle.round.specs.Calls.{opened, nobody, new}
 use Rattle.round_laws.specs.Later.{here, Reached, answers_of}
 use Rattle.round_laws.proofs.Keeps.{new_opened, new_shaped}
@@ -28,6 +26,7 @@ use Rattle.round_laws.proofs.Lasting.{later_frame}
 use Rattle.demands.specs.Second.{Few, shown, meant, MadeWeighs, Empty}
 use Rattle.demands.proofs.Shown.{ghost_shown}
 use Rattle.demands.proofs.Meant.{keeps}
+use Rattle.std.specs.Prelude.{Some, None, Ok}
 
 module _ (r : Round) (reached : Reached r) where
   abbrev start : Round
@@ -59,7 +58,7 @@ root = blocks.opened 10 0
 abbrev bare : Round
 bare = (new 7 nobody root 10).round
 
-opens : ((new 7 nobody root 10).answer ≡ Yes) × (bare ≡ opened 7 nobody root 0)
+opens : ((new 7 nobody root 10).answer ≡ Ok tt) × (bare ≡ opened 7 nobody root 0)
 unfolding
     new sound placed rising non_zero blank sum all any place_of columns.find columns.contains first sized count_fits is_child is_tree are_distinct clear_at
     is_clear are_clear tabled blocks.opened
@@ -72,11 +71,11 @@ few : (phase : Phase) → Few phase (opened 7 nobody root 0)
 unfolding opened sum
 few phase = omega arith
 
-told_then : (answers_of (opened 7 nobody root 0)).ghost ≡ none
+told_then : (answers_of (opened 7 nobody root 0)).ghost ≡ None
 unfolding opened
 told_then = refl
 
-meant_then : (meant (opened 7 nobody root 0)).ghost ≡ some 0
+meant_then : (meant (opened 7 nobody root 0)).ghost ≡ Some 0
 unfolding opened told told_from ghost_of highest_of sum blocks.opened
 meant_then = refl
 

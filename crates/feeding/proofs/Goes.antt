@@ -35,10 +35,10 @@ use Rattle.journal.proofs.Turning.{from_ended, from_counted}
 use Rattle.feeding.specs.declared.Rest.{Rest}
 use Rattle.feeding.specs.declared.Replay.{Replay}
 use Rattle.feeding.specs.declared.Joint.{Joint}
-use Rattle.feeding.specs.declared.Stop.TheVariants as stop
-use Rattle.feeding.specs.declared.Stop.TheVariants.{Open}
 use Rattle.feeding.specs.Feeding.{bytes_of, is_cut, rest_stands, kept_rest, ended_by, after_run, went}
 use Rattle.feeding.specs.Feeding as joint
+use Rattle.std.specs.Prelude.{Ok, Err}
+use Rattle.refusals.specs.declared.Refusal.TheVariants.{OutOfTurn}
 
 -- what the test of a rest says
 pub rest_means : (r : Rest) → T (rest_stands r) → (r.count ≤ 22) × (read (bytes_of r) ≡ is.Cut)
@@ -63,9 +63,9 @@ plus_again a b c = omega arith
 
 -- records that were counted before
 ended_counted : (e : End) (n k : ℕ) (s : Journal) (m : ℕ) (rest : List ℕ) → ended_by e n (ended s (k + m) rest e) ≡ ended_by e (plus n k) (ended s m rest e)
-ended_counted Cut n k s m rest = ap (λ i. record { journal = s; rest = kept_rest rest; records = i; stop = Open }) (plus_again n k m)
-ended_counted (Refused x) n k s m rest = ap (λ i. record { journal = s; rest = kept_rest []; records = i; stop = stop.Refused x }) (plus_again n k m)
-ended_counted Left n k s m rest = ap (λ i. record { journal = s; rest = kept_rest []; records = i; stop = stop.Refused 18 }) (plus_again n k m)
+ended_counted Cut n k s m rest = ap (λ i. record { journal = s; rest = kept_rest rest; records = i; stop = Ok tt }) (plus_again n k m)
+ended_counted (Refused x) n k s m rest = ap (λ i. record { journal = s; rest = kept_rest []; records = i; stop = Err x }) (plus_again n k m)
+ended_counted Left n k s m rest = ap (λ i. record { journal = s; rest = kept_rest []; records = i; stop = Err OutOfTurn }) (plus_again n k m)
 
 pub after_counted : (n k : ℕ) (r : Run Journal) → after_run n (counted k r) ≡ after_run (plus n k) r
 unfolding after_run counted
@@ -216,14 +216,14 @@ module _ (j : Journal) (rest : Rest) (sized : length rest.bytes ≡ 22) (stands 
 
 -- what code makes of a run
 pub after_open : (n : ℕ) (p : Progress) (bs : List ℕ) → p.end ≡ Cut → (rest : Rest) → rest ≡ kept_rest (part p.at bs) → (m : ℕ) → m ≡ plus n p.count
-    → record { journal = p.journal; rest = rest; records = m; stop = Open } ≡ after_run n (run_of p bs)
+    → record { journal = p.journal; rest = rest; records = m; stop = Ok tt } ≡ after_run n (run_of p bs)
 unfolding after_run
 after_open n p bs q rest is_rest m is_m =
-    (λ i. record { journal = p.journal; rest = (is_rest ∙ ap kept_rest (part_drop p.at bs)) i; records = is_m i; stop = Open })
+    (λ i. record { journal = p.journal; rest = (is_rest ∙ ap kept_rest (part_drop p.at bs)) i; records = is_m i; stop = Ok tt })
     ∙ sym (ap (λ (x : End). ended_by x n (run_of p bs)) q)
 
 abbrev stopped_by : Journal → ℕ → ℕ → Replay
-stopped_by j m k = record { journal = j; rest = kept_rest []; records = m; stop = stop.Refused k }
+stopped_by j m k = record { journal = j; rest = kept_rest []; records = m; stop = Err k }
 
 pub after_stopped : (n : ℕ) (p : Progress) (bs : List ℕ) (k : ℕ) → p.end ≡ Refused k → (m : ℕ) → m ≡ plus n p.count → (r : Replay)
     → r ≡ stopped_by p.journal m k → r ≡ after_run n (run_of p bs)

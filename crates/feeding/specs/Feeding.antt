@@ -1,7 +1,7 @@
 -- A replay that takes a journal's bytes piece by piece. Document 01, "The journal": the replay stops at the first refusal, K counts records
 -- from 1, the tail is what is left after the last whole record. "Refusal numbers": 9 first where a state is taken; a refusal hands it back
 -- equal.
-use Rattle.std.specs.Prelude.{Bool, true, false, cond, not, ◌&&◌, List, [], ◌++◌, ℕ, ◌+◌, ltb, length, take, drop, replicate}
+use Rattle.std.specs.Prelude.{Bool, true, false, cond, not, ◌&&◌, List, [], ◌++◌, ℕ, ◌+◌, ltb, length, take, drop, replicate, Result, Ok, Err, ⊤}
 use Rattle.weights.specs.Weights.{plus}
 use Rattle.marks.specs.declared.Record.{Record}
 use Rattle.marks.specs.declared.Record.TheVariants as is
@@ -14,11 +14,11 @@ use Rattle.journal.specs.declared.Journal.{Journal}
 use Rattle.journal.specs.Journal as journal
 use Rattle.journal.specs.Journal.{told, run_from}
 use Rattle.feeding.specs.declared.Rest.{Rest}
-use Rattle.feeding.specs.declared.Stop.{Stop}
-use Rattle.feeding.specs.declared.Stop.TheVariants.{Open, Refused}
 use Rattle.feeding.specs.declared.Replay.{Replay}
 use Rattle.feeding.specs.declared.Fed.{Fed}
 use Rattle.feeding.specs.declared.Joint.{Joint}
+use Rattle.refusals.specs.declared.Refusal.{Refusal}
+use Rattle.refusals.specs.declared.Refusal.TheVariants.{Misshapen, OutOfTurn}
 
 -- the bytes of a record that is not whole yet
 abbrev pub bytes_of : Rest → List ℕ
@@ -41,16 +41,16 @@ kept_rest bs = record { bytes = over 22 bs; count = length bs }
 
 -- the replay after a run: a refusal stops it, and its tail is dropped
 abbrev pub ended_by : End → ℕ → Run Journal → Replay
-ended_by end.Cut n r = record { journal = r.state; rest = kept_rest r.rest; records = plus n r.count; stop = Open }
-ended_by (end.Refused k) n r = record { journal = r.state; rest = kept_rest []; records = plus n r.count; stop = Refused k }
-ended_by end.Left n r = record { journal = r.state; rest = kept_rest []; records = plus n r.count; stop = Refused 18 }
+ended_by end.Cut n r = record { journal = r.state; rest = kept_rest r.rest; records = plus n r.count; stop = Ok tt }
+ended_by (end.Refused k) n r = record { journal = r.state; rest = kept_rest []; records = plus n r.count; stop = Err k }
+ended_by end.Left n r = record { journal = r.state; rest = kept_rest []; records = plus n r.count; stop = Err OutOfTurn }
 
 unfoldable pub after_run : ℕ → Run Journal → Replay
 after_run n r = ended_by r.end n r
 
 -- before the first record
 abbrev pub started : Replay
-started = record { journal = journal.laid (pairing no_pairs); rest = kept_rest []; records = 0; stop = Open }
+started = record { journal = journal.laid (pairing no_pairs); rest = kept_rest []; records = 0; stop = Ok tt }
 
 -- a whole journal
 unfoldable pub replayed : List ℕ → Replay
@@ -67,13 +67,13 @@ abbrev pub answered : Replay → Fed
 answered r = record { answer = r.stop; replay = r }
 
 -- a replay that has stopped stays as it is
-abbrev pub unless : Stop → Replay → Replay → Fed
-unless Open before after = answered after
-unless (Refused n) before after = record { answer = Refused n; replay = before }
+abbrev pub unless : Result ⊤ Refusal → Replay → Replay → Fed
+unless (Ok tt) before after = answered after
+unless (Err n) before after = record { answer = Err n; replay = before }
 
 unfoldable pub fed : Replay → List ℕ → Fed
 fed r piece =
-    cond (stands r) (unless r.stop r (went r.journal r.rest r.records piece)) (record { answer = Refused 9; replay = r })
+    cond (stands r) (unless r.stop r (went r.journal r.rest r.records piece)) (record { answer = Err Misshapen; replay = r })
 
 -- what is left of a piece, with the start of the next one behind it
 unfoldable pub laid : List ℕ → Joint

@@ -9,23 +9,17 @@ ghost use Rattle.marks.specs.declared.End.TheVariants.{Cut};
 ghost use Rattle.marks.specs.Marks.{read};
 ghost use Rattle.turns.specs.Stands.{Stands};
 ghost use Rattle.journal.specs.Journal.{told, run_of};
-ghost use Rattle.feeding.specs.declared.Stop.TheVariants.{Refused};
 ghost use Rattle.feeding.specs.Feeding.{rest_stands, kept_rest, after_run, started, replayed, went, stands, fed, laid};
 
 use journal::{Journal, Progress};
 use marks::{End, Record};
+use refusals::Refusal;
 
 // The bytes of a record that is not whole yet; places past the count are not looked at.
 #[derive(Clone, Copy)]
 pub struct Rest {
     pub bytes: [u8; 22],
     pub count: usize,
-}
-
-#[derive(Clone, Copy)]
-pub enum Stop {
-    Open,
-    Refused(u8),
 }
 
 // A replay between two pieces of its journal. A refused record stops it: what was told before stays, and the refused record is the one after
@@ -35,12 +29,12 @@ pub struct Replay {
     pub journal: Journal,
     pub rest: Rest,
     pub records: u64,
-    pub stop: Stop,
+    pub stop: Result<(), Refusal>,
 }
 
 #[derive(Clone, Copy)]
 pub struct Fed {
-    pub answer: Stop,
+    pub answer: Result<(), Refusal>,
     pub replay: Replay,
 }
 
@@ -89,17 +83,17 @@ fn after(records: u64, progress: Progress, bytes: &[u8]) -> Replay
                 journal,
                 rest,
                 records: seen,
-                stop: Stop::Open,
+                stop: Ok(()),
             }
         }
-        End::Refused(number) => stopped(journal, seen, number),
-        End::Left => stopped(journal, seen, 18),
+        End::Refused(refusal) => stopped(journal, seen, refusal),
+        End::Left => stopped(journal, seen, Refusal::OutOfTurn),
     }
 }
 
 // A refusal stops the replay, and its tail is dropped.
-fn stopped(journal: Journal, records: u64, number: u8) -> Replay
-    ensures { result ≡ record { journal = journal; rest = kept_rest []; records = records; stop = Refused number } }
+fn stopped(journal: Journal, records: u64, refusal: Refusal) -> Replay
+    ensures { result ≡ record { journal = journal; rest = kept_rest []; records = records; stop = Err refusal } }
 {
     Replay {
         journal,
@@ -108,7 +102,7 @@ fn stopped(journal: Journal, records: u64, number: u8) -> Replay
             count: 0,
         },
         records,
-        stop: Stop::Refused(number),
+        stop: Err(refusal),
     }
 }
 
@@ -220,7 +214,7 @@ impl Replay {
                 count: 0,
             },
             records: 0,
-            stop: Stop::Open,
+            stop: Ok(()),
         }
     }
 
@@ -242,7 +236,7 @@ impl Replay {
     {
         if !self.is_replay() {
             return Fed {
-                answer: Stop::Refused(9),
+                answer: Err(Refusal::Misshapen),
                 replay: self,
             };
         }
@@ -250,11 +244,11 @@ impl Replay {
         let journal = self.journal;
         let rest = self.rest;
         match stop {
-            Stop::Refused(number) => Fed {
-                answer: Stop::Refused(number),
+            Err(refusal) => Fed {
+                answer: Err(refusal),
                 replay: self,
             },
-            Stop::Open => {
+            Ok(()) => {
                 let replay = went(journal, rest, self.records, piece);
                 let answer = replay.stop;
                 Fed { answer, replay }

@@ -1,29 +1,27 @@
 -- What a replay tells, as 22 numbers at fixed places: the numbers of document 01's lines ("The journal"), each in eight bytes,
 -- little-endian, as the journal's own fields are. "Refusal numbers": 14, lent buffer too short, and the buffer untouched.
-use Rattle.std.specs.Prelude.{cond, List, [], ◌∷◌, ◌++◌, ℕ, ltb, length, drop}
+use Rattle.std.specs.Prelude.{cond, List, [], ◌∷◌, ◌++◌, ℕ, ltb, length, drop, Option, Some, None, Ok, Err}
 use Rattle.weights.specs.Weights.{plus}
 use Rattle.records.specs.Bytes.{little}
-use Rattle.listing.specs.declared.Written.TheVariants as answer
 use Rattle.listing.specs.Written.{Lent, in_a_row}
-use Rattle.round.specs.declared.Told.{Told}
-use Rattle.round.specs.declared.Told.TheVariants as told
 use Rattle.summary.specs.declared.Outcome.{Outcome}
 use Rattle.summary.specs.declared.Outcome.TheVariants.{Voting, Early, Refused}
 use Rattle.summary.specs.declared.Summary.{Summary}
 use Rattle.figures.specs.declared.Ended.{Ended}
 use Rattle.figures.specs.declared.Block.{Block}
+use Rattle.refusals.specs.declared.Refusal.TheVariants.{ShortBuffer}
+use Rattle.refusals.specs.Number.{number}
 
 -- 0 a round, 1 none, 2 refused; the refusal's number; the record refused, which is the one after those taken, counted from 1
 abbrev pub ended_by : Outcome → ℕ → Ended
 ended_by Voting records = record { kind = 0; refusal = 0; place = 0 }
 ended_by Early records = record { kind = 1; refusal = 0; place = 0 }
-ended_by (Refused n) records = record { kind = 2; refusal = n; place = plus records 1 }
+ended_by (Refused n) records = record { kind = 2; refusal = number n; place = plus records 1 }
 
 -- 1 and the block's id and number, or three zeros
-abbrev pub shown : Told → Block
-shown (told.Block id number) = record { known = 1; id = id; height = number }
-shown told.Nothing = record { known = 0; id = 0; height = 0 }
-shown (told.Refused n) = record { known = 0; id = 0; height = 0 }
+abbrev pub shown : Option (ℕ × ℕ) → Block
+shown (Some (id, height)) = record { known = 1; id = id; height = height }
+shown None = record { known = 0; id = 0; height = 0 }
 
 -- the numbers by place, from 0
 unfoldable pub figures : Summary → List ℕ
@@ -60,5 +58,5 @@ in_order numbers = in_a_row (little 8) numbers
 unfoldable pub figured : Summary → List ℕ → Lent
 figured s out =
     cond (ltb (length out) 176)
-    (record { answer = answer.Refused 14; bytes = out })
-    (record { answer = answer.Bytes 176; bytes = in_order (figures s) ++ drop 176 out })
+    (record { answer = Err ShortBuffer; bytes = out })
+    (record { answer = Ok 176; bytes = in_order (figures s) ++ drop 176 out })

@@ -7,8 +7,7 @@ ghost use Rattle.records.specs.Bytes.{little};
 ghost use Rattle.listing.specs.Written.{Lent};
 ghost use Rattle.figures.specs.Figures.{ended_by, shown, figures, in_order, figured};
 
-use listing::Written;
-use round::Told;
+use refusals::Refusal;
 use summary::{Outcome, Summary};
 
 // How a replay ended: 0 with a round, 1 without one, 2 at a refused record; the refusal's number; the record refused, counted from 1.
@@ -50,29 +49,24 @@ fn ended_by(outcome: Outcome, records: u64) -> Ended
             refusal: 0,
             place: 0,
         },
-        Outcome::Refused(number) => Ended {
+        Outcome::Refused(refusal) => Ended {
             kind: 2,
-            refusal: number as u64,
+            refusal: refusal.number() as u64,
             place: next(records),
         },
     }
 }
 
-fn shown(told: Told) -> Block
+fn shown(told: Option<(u32, u32)>) -> Block
     ensures { result ≡ shown told }
 {
     match told {
-        Told::Block(id, number) => Block {
+        Some((id, number)) => Block {
             known: 1,
             id: id as u64,
             height: number as u64,
         },
-        Told::Nothing => Block {
-            known: 0,
-            id: 0,
-            height: 0,
-        },
-        Told::Refused(_) => Block {
+        None => Block {
             known: 0,
             id: 0,
             height: 0,
@@ -158,12 +152,12 @@ fn put_all(out: &mut [u8], numbers: [u64; 22])
 }
 
 // The 22 numbers from the start of a lent buffer; the bytes after them stay.
-pub fn write(summary: Summary, out: &mut [u8]) -> Written
+pub fn write(summary: Summary, out: &mut [u8]) -> Result<usize, Refusal>
     ensures { ◌≡◌ {A = Lent} (record { answer = result; bytes = out.new }) (figured summary out.old) }
 {
     if out.len() < 176 {
-        return Written::Refused(14);
+        return Err(Refusal::ShortBuffer);
     }
     put_all(out, figures(summary));
-    Written::Bytes(176)
+    Ok(176)
 }

@@ -1,6 +1,5 @@
 -- The four answers: each relation fixes its answer, each function computes what its relation fixes; where the answers lie.
 use mathlib.Core.Bool.{Bool, true, false, cond, not, ◌&&◌, ◌||◌}
-use mathlib.Core.Option.{Option, none, some}
 use mathlib.Core.Path.{◌≡◌, refl, sym, ap, subst, ◌∙◌}
 use mathlib.Core.Logic.{◌≢◌, ◌⊎◌, inl, inr, ⊎_elim, ◌↔◌}
 use Prim.Native.Nat.{ℕ, pred, ◌+◌, ◌≤◌, ◌<◌}
@@ -20,18 +19,19 @@ use Rattle.grandpa.proofs.Trees.{below_refl, below_trans, below_le, below_antisy
 use Rattle.grandpa.proofs.Votes.{base_weight, weight_up, bare_impossible, heard_le}
 use Rattle.grandpa.proofs.Makers.{one_line}
 use Rattle.grandpa.proofs.Searches.{first_down, first_unique, first_says, first_some, highest_says, highest_some}
+use Rattle.std.specs.Prelude.{Option, Some, None}
 
 -- Prevote-GHOST
 pub ghost_says : (vs : Voters) (t : Blocks) (pv : ℕ → Vote) → Says (Ghost vs t pv) (ghost_of vs t pv)
 unfolding ghost_of
 ghost_says vs t pv =
-    by_test (Says (Ghost vs t pv)) (leb (threshold (total vs)) (heard vs pv)) _ none
+    by_test (Says (Ghost vs t pv)) (leb (threshold (total vs)) (heard vs pv)) _ None
     (λ r. go (leb→le _ _ r) (highest_of t.number (weighty vs t.up pv) t.count) (highest_says t.number (weighty vs t.up pv) t.count))
     (λ r x p. omega (arith, nleb→lt, p.reached))
   where
     go : threshold (total vs) ≤ heard vs pv → (o : Option ℕ) → Says (Highest t.number (weighty vs t.up pv) t.count) o → Says (Ghost vs t pv) o
-    go h none n = λ x p. n x p.highest
-    go h (some g) p = record { reached = h; highest = p }
+    go h None n = λ x p. n x p.highest
+    go h (Some g) p = record { reached = h; highest = p }
 
 -- there is a GHOST once some block of the table has weight T or more
 pub ghost_some : (vs : Voters) (t : Blocks) (pv : ℕ → Vote) (b : ℕ) → threshold (total vs) ≤ heard vs pv
@@ -107,24 +107,24 @@ module _ (vs : Voters) (up : ℕ → ℕ) (falls : (k : ℕ) → up k ≤ pred k
     pub finalized_says : Says (Finalized vs up base pc g) (finalized_of vs up base pc g)
     unfolding finalized_of
     finalized_says =
-        by_test (Says (Finalized vs up base pc g)) (leb (threshold (total vs)) (heard vs pc)) _ none
+        by_test (Says (Finalized vs up base pc g)) (leb (threshold (total vs)) (heard vs pc)) _ None
         (λ r. go (leb→le _ _ r) (first_of up (weighty vs up pc) base g) (first_says up falls base (weighty vs up pc) g inside))
         (λ r x p. omega (arith, nleb→lt, p.reached))
       where
         go : threshold (total vs) ≤ heard vs pc → (o : Option ℕ) → Says (First up (weighty vs up pc) base g) o → Says (Finalized vs up base pc g) o
-        go h none n = λ x p. n x p.first
-        go h (some b) p = record { reached = h; first = p }
+        go h None n = λ x p. n x p.first
+        go h (Some b) p = record { reached = h; first = p }
 
     pub estimate_says : Says (Estimate vs up base pc g) (estimate_of vs up base pc g)
     unfolding estimate_of
     estimate_says =
-        by_test (Says (Estimate vs up base pc g)) (leb (threshold (total vs)) (heard vs pc)) _ (some g)
+        by_test (Says (Estimate vs up base pc g)) (leb (threshold (total vs)) (heard vs pc)) _ (Some g)
         (λ r. go (leb→le _ _ r) (first_of up (possible_at vs up pc) base g) (first_says up falls base (possible_at vs up pc) g inside))
         (λ r. inl (nleb→lt _ _ r, refl))
       where
         go : threshold (total vs) ≤ heard vs pc → (o : Option ℕ) → Says (First up (possible_at vs up pc) base g) o → Says (Estimate vs up base pc g) o
-        go h none n = λ x p. ⊎_elim (λ q. omega (arith, q.0)) (λ q. n x q.1) p
-        go h (some b) p = inr (h, p)
+        go h None n = λ x p. ⊎_elim (λ q. omega (arith, q.0)) (λ q. n x q.1) p
+        go h (Some b) p = inr (h, p)
 
     -- the children that are asked lie in a table of n blocks
     module _ (ask : ℕ → Bool) (n : ℕ) (few : (k : ℕ) → T (ask k) → k < n) where
@@ -162,13 +162,13 @@ module _ (vs : Voters) (up : ℕ → ℕ) (falls : (k : ℕ) → up k ≤ pred k
         where
           to : (o : Option ℕ) → Says (First up (possible_at vs up pc) base g) o → threshold (total vs) ≤ heard vs pc
               → T (settled_at g (all n (λ k. not (asked k))) o) → Completable vs up base pc ask g
-          to none p h t = absurd t
-          to (some e) p h t = record { reached = h; estimate = e; first = p; settled = settled_told e t }
+          to None p h t = absurd t
+          to (Some e) p h t = record { reached = h; estimate = e; first = p; settled = settled_told e t }
 
           fro : Completable vs up base pc ask g → (o : Option ℕ) → Says (First up (possible_at vs up pc) base g) o
               → T (settled_at g (all n (λ k. not (asked k))) o)
-          fro c none p = absurd (p c.estimate c.first)
-          fro c (some e) p =
+          fro c None p = absurd (p c.estimate c.first)
+          fro c (Some e) p =
               told_settled e (subst Settled (first_unique up falls base (possible_at vs up pc) g c.estimate e c.first p) c.settled)
 
 -- the paper's completable asks every child, the Rust's those with a vote-node at or below them: while E is at most F the two agree

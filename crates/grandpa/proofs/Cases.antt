@@ -2,7 +2,6 @@
 -- fault weight, in which the estimate moves away from the base and a completable round stops being so.
 use mathlib.Core.Bool.{Bool, true, false}
 use mathlib.Core.List.{List, [], ◌∷◌}
-use mathlib.Core.Option.{Option, none, some}
 use mathlib.Core.Path.{◌≡◌, refl}
 use Prim.Native.Nat.{ℕ}
 use lib.ListN.{get_or, length}
@@ -11,6 +10,7 @@ use Rattle.loops.specs.Sum.{sum}
 use Rattle.grandpa.specs.Tree.{Blocks, within, below}
 use Rattle.grandpa.specs.Vote.{Vote, silent, once, twice, Voters}
 use Rattle.grandpa.specs.Answers.{Told, told, told_from, ghost_of, highest_of, first_of, search_up, finalized_of, estimate_of, completable_of}
+use Rattle.std.specs.Prelude.{Option, Some, None}
 
 -- blocks by their parents and numbers, votes by voter
 abbrev blocks : List ℕ → List ℕ → Blocks
@@ -55,12 +55,12 @@ rows =
     ∷ []
 
 cases_j : rows
-    ≡ says (some 2) (some 2) (some 1) true
-    ∷ says (some 1) (some 1) none false
-    ∷ says (some 2) (some 2) (some 2) true
-    ∷ says (some 2) (some 2) (some 1) true
-    ∷ says (some 2) (some 1) (some 1) true
-    ∷ says none none none false
+    ≡ says (Some 2) (Some 2) (Some 1) true
+    ∷ says (Some 1) (Some 1) None false
+    ∷ says (Some 2) (Some 2) (Some 2) true
+    ∷ says (Some 2) (Some 2) (Some 1) true
+    ∷ says (Some 2) (Some 1) (Some 1) true
+    ∷ says None None None false
     ∷ []
 unfolding told told_from ghost_of highest_of first_of search_up finalized_of estimate_of completable_of below within sum all any
 cases_j = refl
@@ -70,6 +70,6 @@ cases_j = refl
 above_fault : told four tree_14 0 prevotes_j (votes (once 4 ∷ once 1 ∷ once 3 ∷ once 1 ∷ []))
     ∷ told four tree_14 0 prevotes_j (votes (once 4 ∷ twice 1 ∷ once 3 ∷ twice 1 ∷ []))
     ∷ []
-    ≡ says (some 2) (some 1) (some 1) true ∷ says (some 2) (some 2) (some 2) false ∷ []
+    ≡ says (Some 2) (Some 1) (Some 1) true ∷ says (Some 2) (Some 2) (Some 2) false ∷ []
 unfolding told told_from ghost_of highest_of first_of search_up finalized_of estimate_of completable_of below within sum all any
 above_fault = refl

@@ -1,6 +1,5 @@
 -- Adding blocks changes no weight and nothing told.
 use mathlib.Core.Bool.{Bool, true, false, cond, not, ◌&&◌, ◌||◌}
-use mathlib.Core.Option.{Option, none, some}
 use mathlib.Core.Path.{◌≡◌, refl, sym, ap, ap₂, fun_ext, subst, ◌∙◌}
 use mathlib.Core.Logic.{◌≢◌, ◌⊎◌, inl, inr, ⊎_elim}
 use Prim.Native.Nat.{ℕ, zero, suc, pred, ◌+◌, ◌≤◌, ◌<◌}
@@ -19,6 +18,7 @@ use Rattle.grandpa.specs.Possible.{possible, possible_at}
 use Rattle.grandpa.specs.Answers.{search_up, first_of, finalized_of, estimate_of, with_node, settled_at, completable_of, Told, told_from}
 use Rattle.grandpa.specs.Time.{Grown, Placed, VotesPlaced, Stored}
 use Rattle.grandpa.proofs.Trees.{below_same, below_le}
+use Rattle.std.specs.Prelude.{Option, Some, None}
 
 module _ (vs : Voters) (s t : Blocks) (falls : (k : ℕ) → s.up k ≤ pred k) (grown : Grown s t) (base : ℕ) where
   abbrev same : (a b : ℕ) → b < s.count → below s.up a b ≡ below t.up a b
@@ -53,7 +53,7 @@ module _ (vs : Voters) (s t : Blocks) (falls : (k : ℕ) → s.up k ≤ pred k) 
     unfolding search_up
     search_same zero b h = refl
     search_same (suc f) b h =
-        ap (λ (r : Option ℕ). cond (ok b) (some b) (cond (eqb b base) none r))
+        ap (λ (r : Option ℕ). cond (ok b) (Some b) (cond (eqb b base) None r))
         (search_same f (s.up b) (omega (arith, falls b)) ∙ ap (search_up t.up ok base f) (grown.same_up b h))
 
     first_same : (g : ℕ) → g < s.count → first_of s.up ok base g ≡ first_of t.up ok base g
@@ -117,5 +117,5 @@ module _ (vs : Voters) (s t : Blocks) (falls : (k : ℕ) → s.up k ≤ pred k) 
 
     pub told_same : (o : Option ℕ) → Stored s base o → told_from vs s base pv pc o ≡ told_from vs t base pv pc o
     unfolding told_from
-    told_same none p = refl
-    told_same (some g) p = rw (finalized_same g p.0, estimate_same g p.0, completable_same g p.0)
+    told_same None p = refl
+    told_same (Some g) p = rw (finalized_same g p.0, estimate_same g p.0, completable_same g p.0)

@@ -1,7 +1,6 @@
 -- Nothing told is taken back, over the definitions. A GHOST that was told may be any block that later ones lie at or below:
 -- the definition's, while prevote equivocators are at most F, or one that is stored and started from, with no premise.
 use mathlib.Core.Bool.{Bool, true, false, not}
-use mathlib.Core.Option.{Option, none, some}
 use mathlib.Core.Path.{◌≡◌, refl, sym, ap, subst, ◌∙◌}
 use mathlib.Core.Logic.{◌≢◌, ◌⊎◌, inl, inr, ⊎_elim, ◌↔◌}
 use Prim.Native.Nat.{ℕ, pred, ◌+◌, ◌≤◌, ◌<◌}
@@ -20,6 +19,7 @@ use Rattle.grandpa.proofs.Votes.{base_weight, heard_grows, equivocators_grow, we
 use Rattle.grandpa.proofs.Searches.{first_down, first_unique, first_some}
 use Rattle.grandpa.proofs.Growth.{placed_same, weight_same, told_same}
 use Rattle.grandpa.proofs.Answers.{ghost_says, ghost_some, ghost_under, ghost_inside, finalized_says, estimate_says, estimate_below, estimate_unique, weighty_possible, completable_says, possible_noded}
+use Rattle.std.specs.Prelude.{Option, Some, None}
 
 -- on one table, from g to g'
 module _ (vs : Voters) (t : Blocks) (falls : (k : ℕ) → t.up k ≤ pred k) (some_weight : 0 < total vs) (base : ℕ)
@@ -94,16 +94,16 @@ module _ (vs : Voters) (t : Blocks) (falls : (k : ℕ) → t.up k ≤ pred k) (s
 -- two answers by what they say: the second exists where the first does, and is at or below it
 down_by : (up : ℕ → ℕ) (P Q : ℕ → Type 0) (o o' : Option ℕ) → Says P o → Says Q o'
     → ((x : ℕ) → P x → (y : ℕ) × Q y) → ((x y : ℕ) → P x → Q y → T (below up x y)) → Down up o o'
-down_by up P Q none o' p q some_later r = tt
-down_by up P Q (some x) none p q some_later r = let y = some_later x p in q y.0 y.1
-down_by up P Q (some x) (some y) p q some_later r = r x y p q
+down_by up P Q None o' p q some_later r = tt
+down_by up P Q (Some x) None p q some_later r = let y = some_later x p in q y.0 y.1
+down_by up P Q (Some x) (Some y) p q some_later r = r x y p q
 
 -- an estimate lies at or below the finalized block
 pub told_ordered : (vs : Voters) (t : Blocks) (falls : (k : ℕ) → t.up k ≤ pred k) (base : ℕ) (pv pc : ℕ → Vote) (o : Option ℕ)
     → Stored t base o → Ordered t.up (told_from vs t base pv pc o)
 unfolding told_from
-told_ordered vs t falls base pv pc none p = tt
-told_ordered vs t falls base pv pc (some g) p =
+told_ordered vs t falls base pv pc None p = tt
+told_ordered vs t falls base pv pc (Some g) p =
     down_by t.up _ _ (finalized_of vs t.up base pc g) (estimate_of vs t.up base pc g)
     (finalized_says vs t.up falls base pc g p.1) (estimate_says vs t.up falls base pc g p.1)
     (λ f q.
@@ -120,7 +120,7 @@ module _ (vs : Voters) (some_weight : 0 < total vs) (base : ℕ) (s t : Blocks) 
 
   -- on the later table
   kept_from : (g g' : ℕ) → T (below t.up g g') → T (below t.up base g)
-      → Kept t.up (equivocators vs pc' ≤ fault (total vs)) (told_from vs t base pv pc (some g)) (told_from vs t base pv' pc' (some g'))
+      → Kept t.up (equivocators vs pc' ≤ fault (total vs)) (told_from vs t base pv pc (Some g)) (told_from vs t base pv' pc' (Some g'))
   unfolding told_from
   kept_from g g' down inside =
       record {
@@ -162,12 +162,12 @@ module _ (vs : Voters) (some_weight : 0 < total vs) (base : ℕ) (s t : Blocks) 
     where
       go : (o o' : Option ℕ) → Stored s base o → Down t.up o o'
           → Kept t.up (equivocators vs pc' ≤ fault (total vs)) (told_from vs t base pv pc o) (told_from vs t base pv' pc' o')
-      go none o' st d = from_nothing o'
+      go None o' st d = from_nothing o'
         where
-          from_nothing : (o' : Option ℕ) → Kept t.up (equivocators vs pc' ≤ fault (total vs)) (told_from vs t base pv pc none) (told_from vs t base pv' pc' o')
+          from_nothing : (o' : Option ℕ) → Kept t.up (equivocators vs pc' ≤ fault (total vs)) (told_from vs t base pv pc None) (told_from vs t base pv' pc' o')
           from_nothing x = unfold told_from in record { ghost = tt; finalized = tt; completable = λ few c. absurd c; estimate = λ few c. absurd c }
-      go (some g) none st d = absurd d
-      go (some g) (some g') st d =
+      go (Some g) None st d = absurd d
+      go (Some g) (Some g') st d =
           kept_from g g' d (subst T (below_same s.count s.up t.up tabled_s.falls grown.same_up base g st.0) st.1)
 
   -- the definition's GHOST moves down, while prevote equivocators are at most F at the later call
@@ -193,6 +193,6 @@ module _ (vs : Voters) (some_weight : 0 < total vs) (base : ℕ) (s t : Blocks) 
     nothing_taken_back h = told_kept (ghost_of vs s pv) (ghost_of vs t pv') (inside (ghost_of vs s pv) (ghost_says vs s pv)) ghost_down
       where
         inside : (o : Option ℕ) → Says (Ghost vs s pv) o → Stored s base o
-        inside none n = tt
-        inside (some g) p =
+        inside None n = tt
+        inside (Some g) p =
             (p.highest.tabled, ghost_inside vs s tabled_s some_weight pv (omega (arith, equivocators_grow vs pv pv' later_v)) base g p h placed_v)

@@ -3,7 +3,6 @@
 -- T or more lie on one line. And worked cases.
 use mathlib.Core.Bool.{false, ◌&&◌}
 use mathlib.Core.List.{List, [], ◌∷◌}
-use mathlib.Core.Option.{Option, some}
 use mathlib.Core.Path.{◌≡◌, refl, subst, sym}
 use mathlib.Core.Logic.{◌⊎◌, inl, inr}
 use Prim.Native.Nat.{ℕ, pred, ◌≤◌, ◌<◌}
@@ -22,6 +21,7 @@ use Rattle.grandpa.specs.Views.{differ, targets_differ, two_views}
 use Rattle.grandpa.proofs.Trees.{below_line}
 use Rattle.grandpa.proofs.Votes.{overlap}
 use Rattle.grandpa.proofs.Views.{two_views_self}
+use Rattle.std.specs.Prelude.{Option, Some}
 
 module _ (vs : Voters) (up : ℕ → ℕ) (falls : (k : ℕ) → up k ≤ pred k) (some_weight : 0 < total vs) where
   module _ (v w : ℕ → Vote) (a b : ℕ) (p : T (below up a b) → ⊥) (q : T (below up b a) → ⊥) where
@@ -92,7 +92,7 @@ abbrev other_side : List Vote
 other_side = silent ∷ twice 1 ∷ once 2 ∷ once 2 ∷ []
 
 two_finals : final fork (once 1 ∷ once 1 ∷ once 1 ∷ []) one_side ∷ final fork (once 2 ∷ once 2 ∷ once 2 ∷ []) other_side ∷ []
-    ≡ some 1 ∷ some 2 ∷ []
+    ≡ Some 1 ∷ Some 2 ∷ []
 unfolding told told_from ghost_of highest_of first_of search_up finalized_of estimate_of completable_of below within sum all any
 two_finals = refl
 
@@ -110,7 +110,7 @@ line = tree (0 ∷ 0 ∷ 1 ∷ []) (0 ∷ 1 ∷ 2 ∷ [])
 one_line_finals : final line (once 2 ∷ once 2 ∷ once 2 ∷ []) (once 2 ∷ once 2 ∷ once 2 ∷ [])
     ∷ final line (once 2 ∷ once 2 ∷ once 2 ∷ []) (silent ∷ once 2 ∷ once 2 ∷ once 1 ∷ [])
     ∷ []
-    ≡ some 2 ∷ some 1 ∷ []
+    ≡ Some 2 ∷ Some 1 ∷ []
 unfolding told told_from ghost_of highest_of first_of search_up finalized_of estimate_of completable_of below within sum all any
 one_line_finals = refl
 

@@ -1,6 +1,5 @@
 -- Each answer's relation fixes it, and its function computes what the relation fixes.
 use mathlib.Core.Bool.{Bool, true, false, cond, not, ◌&&◌, ◌||◌}
-use mathlib.Core.Option.{Option, none, some}
 use mathlib.Core.Path.{◌≡◌, refl, sym, ap, subst, ◌∙◌}
 use mathlib.Core.Logic.{◌≢◌, ◌⊎◌, inl, inr, ⊎_elim}
 use Prim.Native.Nat.{ℕ, zero, suc, pred, ◌+◌, ◌≤◌, ◌<◌}
@@ -18,15 +17,16 @@ use Rattle.grandpa.specs.Answers.{Says, Highest, higher, highest_of, Ghost, ghos
 use Rattle.grandpa.specs.Time.{Placed, VotesPlaced}
 use Rattle.grandpa.proofs.Trees.{below_refl, below_up, below_trans, below_le, below_antisym, below_line, below_step, child_below, child_towards, number_below, number_strictly}
 use Rattle.grandpa.proofs.Votes.{base_weight, weight_up, bare_weight, bare_impossible, possible_up, weight_heard, heard_le}
+use Rattle.std.specs.Prelude.{Option, Some, None}
 
 -- what a computation ends with: a place of which P holds, or none, and then N
 abbrev pub Ends : (ℕ → Type 0) → Type 0 → Option ℕ → Type 0
-Ends P N none = N
-Ends P N (some x) = P x
+Ends P N None = N
+Ends P N (Some x) = P x
 
 ends_says : (P : ℕ → Type 0) (N : Type 0) (o : Option ℕ) → Ends P N o → (N → (x : ℕ) → P x → ⊥) → Says P o
-ends_says P N none n f = f n
-ends_says P N (some x) p f = p
+ends_says P N None n f = f n
+ends_says P N (Some x) p f = p
 
 -- the first block from g towards the base
 module _ (up : ℕ → ℕ) (falls : (k : ℕ) → up k ≤ pred k) (base : ℕ) where
@@ -50,9 +50,9 @@ module _ (up : ℕ → ℕ) (falls : (k : ℕ) → up k ≤ pred k) (base : ℕ)
     unfolding search_up
     found zero b h inside above near = absurd (omega arith)
     found (suc f) b h inside above near =
-        by_test (Ends (First up ok base g) _) (ok b) (some b) _
+        by_test (Ends (First up ok base g) _) (ok b) (Some b) _
         (λ t. record { inside = inside; above = above; passes = t; nearest = near })
-        (λ t. by_test (Ends (First up ok base g) _) (eqb b base) none _
+        (λ t. by_test (Ends (First up ok base g) _) (eqb b base) None _
         (λ e x l m p. other t x p (omega (arith, below_le up falls x b (near x l m p), below_le up falls base x l, eqb→eq b base e)))
         (λ e.
         let n : base ≢ b = λ q. T_not (eqb b base) e (subst (λ (y : ℕ). T (eqb b y)) (sym q) (eqb_refl b)) in
@@ -70,7 +70,7 @@ module _ (up : ℕ → ℕ) (falls : (k : ℕ) → up k ≤ pred k) (base : ℕ)
     first_ends h = found (suc g) g (omega arith) h (below_refl up falls g) (λ x l m p. m)
 
     pub first_says : T (below up base g) → Says (First up ok base g) (first_of up ok base g)
-    first_says h = ends_says _ _ (first_of up ok base g) (first_ends h) (λ none x p. none x p.inside p.above p.passes)
+    first_says h = ends_says _ _ (first_of up ok base g) (first_ends h) (λ None x p. None x p.inside p.above p.passes)
 
     -- there is a first where some block on the way passes
     pub first_some : (x : ℕ) → T (below up base x) → T (below up x g) → T (ok x) → (e : ℕ) × First up ok base g e
@@ -78,8 +78,8 @@ module _ (up : ℕ → ℕ) (falls : (k : ℕ) → up k ≤ pred k) (base : ℕ)
       where
         go : (o : Option ℕ) → Ends (First up ok base g) ((x : ℕ) → T (below up base x) → T (below up x g) → T (ok x) → ⊥) o
             → (e : ℕ) × First up ok base g e
-        go none n = absurd (n x l m p)
-        go (some e) r = (e, r)
+        go None n = absurd (n x l m p)
+        go (Some e) r = (e, r)
 
 -- the highest-numbered of the first n blocks that pass
 module _ (number : ℕ → ℕ) (ok : ℕ → Bool) where
@@ -98,8 +98,8 @@ module _ (number : ℕ → ℕ) (ok : ℕ → Bool) where
   Best n o = Ends (Highest number ok n) ((x : ℕ) → x < n → T (ok x) → ⊥) o
 
   best_kept : (n : ℕ) (o : Option ℕ) → T (not (ok n)) → Best n o → Best (suc n) o
-  best_kept n none t r = λ x h p. split n x ⊥ h (λ e. T_not (ok n) t (moved e p)) (λ l. r x l p)
-  best_kept n (some a) t r =
+  best_kept n None t r = λ x h p. split n x ⊥ h (λ e. T_not (ok n) t (moved e p)) (λ l. r x l p)
+  best_kept n (Some a) t r =
       record {
         tabled = omega (arith, r.tabled);
         passes = r.passes;
@@ -107,14 +107,14 @@ module _ (number : ℕ → ℕ) (ok : ℕ → Bool) where
       }
 
   best_more : (n : ℕ) (o : Option ℕ) → T (ok n) → Best n o → Best (suc n) (higher number n o)
-  best_more n none t r =
+  best_more n None t r =
       record {
         tabled = omega arith;
         passes = t;
         highest = λ b h p. split n b _ h (λ e. omega (arith, ap number e)) (λ l. absurd (r b l p));
       }
-  best_more n (some a) t r =
-      by_test (Best (suc n)) (ltb (number a) (number n)) (some n) (some a)
+  best_more n (Some a) t r =
+      by_test (Best (suc n)) (ltb (number a) (number n)) (Some n) (Some a)
       (λ l. record {
         tabled = omega arith;
         passes = t;
@@ -135,12 +135,12 @@ module _ (number : ℕ → ℕ) (ok : ℕ → Bool) where
       (λ t. best_kept n (highest_of number ok n) t (highest_ends n))
 
   pub highest_says : (n : ℕ) → Says (Highest number ok n) (highest_of number ok n)
-  highest_says n = ends_says _ _ (highest_of number ok n) (highest_ends n) (λ none x p. none x p.tabled p.passes)
+  highest_says n = ends_says _ _ (highest_of number ok n) (highest_ends n) (λ None x p. None x p.tabled p.passes)
 
   -- there is a highest where some block passes
   pub highest_some : (n x : ℕ) → x < n → T (ok x) → (g : ℕ) × Highest number ok n g
   highest_some n x h p = go (highest_of number ok n) (highest_ends n)
     where
       go : (o : Option ℕ) → Best n o → (g : ℕ) × Highest number ok n g
-      go none r = absurd (r x h p)
-      go (some g) r = (g, r)
+      go None r = absurd (r x h p)
+      go (Some g) r = (g, r)

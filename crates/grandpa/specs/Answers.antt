@@ -1,7 +1,6 @@
 -- Document 01, "The four answers", and the GRANDPA paper: each answer as a relation that fixes it and as a function that
 -- computes it. proofs/Answers.antt joins the two.
-use Rattle.std.specs.Prelude.{Bool, true, false, cond, not, ◌&&◌, ◌||◌, ◌≡◌, ◌≢◌, ◌⊎◌, ℕ, zero, suc, ◌≤◌, ◌<◌, T, leb, ltb, eqb}
-use Rattle.std.proofs.Math.Option.{Option, none, some}
+use Rattle.std.specs.Prelude.{Bool, true, false, cond, not, ◌&&◌, ◌||◌, ◌≡◌, ◌≢◌, ◌⊎◌, ℕ, zero, suc, ◌≤◌, ◌<◌, T, leb, ltb, eqb, Option, Some, None}
 use Rattle.loops.specs.All.{all}
 use Rattle.grandpa.specs.Weight.{threshold}
 use Rattle.grandpa.specs.Tree.{Blocks, below, child}
@@ -10,8 +9,8 @@ use Rattle.grandpa.specs.Possible.{possible_at}
 
 -- an answer says what a relation fixes: none where it holds of nothing
 abbrev pub Says : (ℕ → Type 0) → Option ℕ → Type 0
-Says P none = (x : ℕ) → P x → ⊥
-Says P (some x) = P x
+Says P None = (x : ℕ) → P x → ⊥
+Says P (Some x) = P x
 
 -- the highest-numbered of the first n blocks that pass
 pub record Highest (number : ℕ → ℕ) (ok : ℕ → Bool) (n g : ℕ) : Type 0 where
@@ -20,11 +19,11 @@ pub record Highest (number : ℕ → ℕ) (ok : ℕ → Bool) (n g : ℕ) : Type
   pub highest : (b : ℕ) → b < n → T (ok b) → number b ≤ number g
 
 abbrev pub higher : (ℕ → ℕ) → ℕ → Option ℕ → Option ℕ
-higher number b none = some b
-higher number b (some a) = cond (ltb (number a) (number b)) (some b) (some a)
+higher number b None = Some b
+higher number b (Some a) = cond (ltb (number a) (number b)) (Some b) (Some a)
 
 unfoldable pub highest_of : (ℕ → ℕ) → (ℕ → Bool) → ℕ → Option ℕ
-highest_of number ok zero = none
+highest_of number ok zero = None
 highest_of number ok (suc n) = cond (ok n) (higher number n (highest_of number ok n)) (highest_of number ok n)
 
 -- Prevote-GHOST: once heard prevote weight reaches T, the highest-numbered block of phase weight T or more
@@ -34,7 +33,7 @@ pub record Ghost (vs : Voters) (t : Blocks) (pv : ℕ → Vote) (g : ℕ) : Type
 
 unfoldable pub ghost_of : Voters → Blocks → (ℕ → Vote) → Option ℕ
 ghost_of vs t pv =
-    cond (leb (threshold (total vs)) (heard vs pv)) (highest_of t.number (weighty vs t.up pv) t.count) none
+    cond (leb (threshold (total vs)) (heard vs pv)) (highest_of t.number (weighty vs t.up pv) t.count) None
 
 -- "the first block from g towards the base" that passes: each that passes on the way is at or above it
 pub record First (up : ℕ → ℕ) (ok : ℕ → Bool) (base g b : ℕ) : Type 0 where
@@ -44,9 +43,9 @@ pub record First (up : ℕ → ℕ) (ok : ℕ → Bool) (base g b : ℕ) : Type 
   pub nearest : (x : ℕ) → T (below up base x) → T (below up x g) → T (ok x) → T (below up x b)
 
 unfoldable pub search_up : (ℕ → ℕ) → (ℕ → Bool) → ℕ → ℕ → ℕ → Option ℕ
-search_up up ok base zero b = none
+search_up up ok base zero b = None
 search_up up ok base (suc f) b =
-    let rest = search_up up ok base f (up b) in cond (ok b) (some b) (cond (eqb b base) none rest)
+    let rest = search_up up ok base f (up b) in cond (ok b) (Some b) (cond (eqb b base) None rest)
 
 unfoldable pub first_of : (ℕ → ℕ) → (ℕ → Bool) → ℕ → ℕ → Option ℕ
 first_of up ok base g = search_up up ok base (suc g) g
@@ -57,7 +56,7 @@ pub record Finalized (vs : Voters) (up : ℕ → ℕ) (base : ℕ) (pc : ℕ →
   pub first : First up (weighty vs up pc) base g b
 
 unfoldable pub finalized_of : Voters → (ℕ → ℕ) → ℕ → (ℕ → Vote) → ℕ → Option ℕ
-finalized_of vs up base pc g = cond (leb (threshold (total vs)) (heard vs pc)) (first_of up (weighty vs up pc) base g) none
+finalized_of vs up base pc g = cond (leb (threshold (total vs)) (heard vs pc)) (first_of up (weighty vs up pc) base g) None
 
 -- Estimate: g while heard precommit weight is below T, else the first possible block from g towards the base
 abbrev pub Estimate : Voters → (ℕ → ℕ) → ℕ → (ℕ → Vote) → ℕ → ℕ → Type 0
@@ -67,7 +66,7 @@ Estimate vs up base pc g b =
 
 unfoldable pub estimate_of : Voters → (ℕ → ℕ) → ℕ → (ℕ → Vote) → ℕ → Option ℕ
 estimate_of vs up base pc g =
-    cond (leb (threshold (total vs)) (heard vs pc)) (first_of up (possible_at vs up pc) base g) (some g)
+    cond (leb (threshold (total vs)) (heard vs pc)) (first_of up (possible_at vs up pc) base g) (Some g)
 
 -- Completable: heard precommit weight at least T, and the estimate is not g or no child of g that is asked is possible.
 -- The children that are asked are `every_child` of the table in the paper, those `with_node` at or below them in the Rust.
@@ -84,8 +83,8 @@ abbrev pub with_node : Voters → Blocks → (ℕ → Vote) → (ℕ → Vote) �
 with_node vs t pv pc k = ltb k t.count && noded vs t.up pv pc k
 
 abbrev pub settled_at : ℕ → Bool → Option ℕ → Bool
-settled_at g childless none = false
-settled_at g childless (some e) = not (eqb e g) || childless
+settled_at g childless None = false
+settled_at g childless (Some e) = not (eqb e g) || childless
 
 -- of a table of n blocks
 unfoldable pub completable_of : Voters → (ℕ → ℕ) → ℕ → (ℕ → Vote) → (ℕ → Bool) → ℕ → ℕ → Bool
@@ -102,10 +101,10 @@ pub record Told : Type 0 where
 
 -- Before g exists, all four are none or no
 unfoldable pub told_from : Voters → Blocks → ℕ → (ℕ → Vote) → (ℕ → Vote) → Option ℕ → Told
-told_from vs t base pv pc none = record { ghost = none; finalized = none; estimate = none; completable = false }
-told_from vs t base pv pc (some g) =
+told_from vs t base pv pc None = record { ghost = None; finalized = None; estimate = None; completable = false }
+told_from vs t base pv pc (Some g) =
     record {
-      ghost = some g;
+      ghost = Some g;
       finalized = finalized_of vs t.up base pc g;
       estimate = estimate_of vs t.up base pc g;
       completable = completable_of vs t.up base pc (with_node vs t pv pc) t.count g;

@@ -1,7 +1,6 @@
 -- Document 01, "How a vote is taken" and "Sizes": what calls on one opened round can change, and what stays. The third
 -- demand: nothing told is taken back.
-use Rattle.std.proofs.Math.Option.{Option, none, some}
-use Rattle.std.specs.Prelude.{◌≡◌, ℕ, ◌≤◌, ◌<◌, T}
+use Rattle.std.specs.Prelude.{◌≡◌, ℕ, ◌≤◌, ◌<◌, T, Option, Some, None}
 use Rattle.grandpa.specs.Tree.{Blocks, below}
 use Rattle.grandpa.specs.Vote.{Vote, silent, once, twice, Voters}
 use Rattle.grandpa.specs.Answers.{Told}
@@ -33,14 +32,14 @@ VotesPlaced vs t base v = (i : ℕ) → i < vs.size → Placed t base (v i)
 
 -- a stored block is in the table, at or below the base
 abbrev pub Stored : Blocks → ℕ → Option ℕ → Type 0
-Stored t base none = Unit {0}
-Stored t base (some x) = (x < t.count) × T (below t.up base x)
+Stored t base None = Unit {0}
+Stored t base (Some x) = (x < t.count) × T (below t.up base x)
 
 -- a later answer is the earlier one or a descendant
 abbrev pub Down : (ℕ → ℕ) → Option ℕ → Option ℕ → Type 0
-Down up none y = Unit {0}
-Down up (some a) none = ⊥
-Down up (some a) (some b) = T (below up a b)
+Down up None y = Unit {0}
+Down up (Some a) None = ⊥
+Down up (Some a) (Some b) = T (below up a b)
 
 -- an estimate lies at or below the finalized block
 abbrev pub Ordered : (ℕ → ℕ) → Told → Type 0

@@ -2,7 +2,6 @@
 -- passes. All that is asked of the question is that more bits pass where fewer do.
 use mathlib.Core.Bool.{Bool, true, false, cond, not, ◌&&◌, ◌||◌}
 use mathlib.Core.List.{List, [], ◌∷◌, ◌++◌, append_assoc, append-nil}
-use mathlib.Core.Option.{Option, none, some}
 use mathlib.Core.Path.{◌≡◌, refl, sym, ap, subst, ◌∙◌}
 use mathlib.Core.Logic.{◌≢◌, ◌⊎◌, inl, inr, ⊎_elim}
 use Prim.Native.Nat.{ℕ, zero, suc, pred, ◌+◌, ◌≤◌, ◌<◌}
@@ -29,6 +28,7 @@ use Rattle.graph.proofs.Found.{containing_over}
 use Rattle.graph.proofs.Tallies.{has_join, length_join, tally_told, lands_target, lands_above, target_lands}
 use Rattle.graph.proofs.Listed.{nearest_unique}
 use Rattle.graph.proofs.Followed.{under_is, is_under, child_under, towards_says, towards_is, child_same, Next, Follow, follow_down, following_says}
+use Rattle.std.specs.Prelude.{Some, None}
 
 -- the first that passes
 first_in_says : (p : ℕ → Bool) (l : List ℕ) → ((n : ℕ) → 0 < times n l → n ≢ 0)
@@ -508,7 +508,7 @@ module _ (up ids : ℕ → ℕ) (falls : (k : ℕ) → up k ≤ pred k) (base co
           })
 
   -- where the start passes, the search ends; else it says none
-  pub ghost_ends : (b : ℕ) → T (below up base b) → b < count → T (ok (tally up g b)) → (r : ℕ) × (find_ghost up g ok b ≡ some r) × Ended b r
+  pub ghost_ends : (b : ℕ) → T (below up base b) → b < count → T (ok (tally up g b)) → (r : ℕ) × (find_ghost up g ok b ≡ Some r) × Ended b r
   unfolding find_ghost
   ghost_ends b in_base k t = (
     settle up g ok BLOCKS b (following up g b),
@@ -516,7 +516,7 @@ module _ (up ids : ℕ → ℕ) (falls : (k : ℕ) → up k ≤ pred k) (base co
     settle_ends BLOCKS b (following up g b) (omega arith) k t (following_says up ids falls base count g shape.nodes b in_base),
   )
 
-  pub ghost_none : (b : ℕ) → T (not (ok (tally up g b))) → find_ghost up g ok b ≡ none
+  pub ghost_none : (b : ℕ) → T (not (ok (tally up g b))) → find_ghost up g ok b ≡ None
   unfolding find_ghost
   ghost_none b t = rw (false_T (ok (tally up g b)) t)
 
@@ -549,7 +549,7 @@ module _ (up ids : ℕ → ℕ) (falls : (k : ℕ) → up k ≤ pred k) (base co
       not_nil x (z ∷ l) h = refl
 
       go : Dec (T (g.used b))
-          → cond (not (g.used b) && is_nil (containing up g.used g.heads b)) none (first_of up (λ x. ok (tally up g x)) base b)
+          → cond (not (g.used b) && is_nil (containing up g.used g.heads b)) None (first_of up (λ x. ok (tally up g x)) base b)
           ≡ first_of up (λ x. ok (tally up g x)) base b
       go (yes v) = rw (true_T (g.used b) v)
       go (no v) =

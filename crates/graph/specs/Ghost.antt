@@ -1,7 +1,6 @@
 -- The searches of vote_graph.rs: `find_ancestor`, and `find_ghost` with its merge point. A condition is a question about
 -- joined bits. Document 01, "The four answers": above F the Rust's child order and stored start decide.
-use Rattle.std.specs.Prelude.{Bool, cond, not, ◌&&◌, List, [], ◌∷◌, ◌++◌, ℕ, zero, suc, eqb}
-use Rattle.std.proofs.Math.Option.{Option, none, some}
+use Rattle.std.specs.Prelude.{Bool, cond, not, ◌&&◌, List, [], ◌∷◌, ◌++◌, ℕ, zero, suc, eqb, Option, Some, None}
 use Rattle.sizes.specs.Sizes.{BLOCKS}
 use Rattle.loops.specs.Listing.{keep}
 use Rattle.grandpa.specs.Tree.{below}
@@ -17,7 +16,7 @@ is_nil (x ∷ xs) = Bool.false
 -- the first block from b towards the base whose bits pass; none where b is not in the graph
 unfoldable pub find_ancestor : (ℕ → ℕ) → Graph → ℕ → (List ℕ → Bool) → ℕ → Option ℕ
 find_ancestor up g base ok b =
-    cond (not (g.used b) && is_nil (containing up g.used g.heads b)) none (first_of up (λ x. ok (tally up g x)) base b)
+    cond (not (g.used b) && is_nil (containing up g.used g.heads b)) None (first_of up (λ x. ok (tally up g x)) base b)
 
 -- n is strictly below b
 abbrev pub under : (ℕ → ℕ) → ℕ → ℕ → Bool
@@ -67,4 +66,4 @@ descend up g ok b = settle up g ok BLOCKS b (following up g b)
 
 -- `find_ghost` from a block: none where the block does not pass
 unfoldable pub find_ghost : (ℕ → ℕ) → Graph → (List ℕ → Bool) → ℕ → Option ℕ
-find_ghost up g ok b = cond (ok (tally up g b)) (some (descend up g ok b)) none
+find_ghost up g ok b = cond (ok (tally up g b)) (Some (descend up g ok b)) None

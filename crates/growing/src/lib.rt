@@ -4,7 +4,6 @@
 ghost use Rattle.std.specs.Prelude.{◌≡◌, ◌≤◌, length, drop};
 ghost use Rattle.sizes.specs.Sizes.{BLOCKS};
 ghost use Rattle.marks.specs.declared.Mark.TheVariants.{Bk};
-ghost use Rattle.marks.specs.declared.Turn.TheVariants.{Over};
 ghost use Rattle.marks.specs.Marks.{size};
 ghost use Rattle.runs.specs.Run.{Run, ran};
 ghost use Rattle.runs.specs.Tried.{Tried, tried};
@@ -12,14 +11,15 @@ ghost use Rattle.blocks.specs.declared.BlockTable.{BlockTable};
 ghost use Rattle.block_index.specs.Index.{Indexed};
 ghost use Rattle.growing.specs.Growing.{grown, turn_of};
 
-use blocks::Answer;
-use marks::{End, Mark, Record, Turn};
+use marks::{End, Mark, Record};
+use refusals::Refusal;
 use sizes::BLOCKS;
+use std::ops::ControlFlow;
 
 // The blocks after a record, and whether the turn goes on.
 #[derive(Clone, Copy)]
 pub struct Took {
-    pub turn: Turn,
+    pub turn: ControlFlow<End>,
     pub blocks: usize,
 }
 
@@ -34,20 +34,20 @@ pub struct Grown {
 
 // The turn is over at a record, which leaves the blocks as they are.
 fn over(end: End, blocks: usize) -> Took
-    ensures { result ≡ record { turn = Over end; blocks = blocks } }
+    ensures { result ≡ record { turn = Break end; blocks = blocks } }
 {
     Took {
-        turn: Turn::Over(end),
+        turn: ControlFlow::Break(end),
         blocks,
     }
 }
 
-fn turn(answer: Answer) -> Turn
+fn turn(answer: Result<u8, Refusal>) -> ControlFlow<End>
     ensures { result ≡ turn_of answer }
 {
     match answer {
-        Answer::Placed(_) => Turn::Goes,
-        Answer::Refused(number) => Turn::Over(End::Refused(number)),
+        Ok(_) => ControlFlow::Continue(()),
+        Err(refusal) => ControlFlow::Break(End::Refused(refusal)),
     }
 }
 
@@ -111,10 +111,10 @@ fn take(
     match mark {
         Mark::Bk => grow(ids, numbers, parents, slots, blocks, fields),
         Mark::Op => over(End::Left, blocks),
-        Mark::Vt => over(End::Refused(18), blocks),
-        Mark::Rt => over(End::Refused(18), blocks),
-        Mark::Pv => over(End::Refused(18), blocks),
-        Mark::Pc => over(End::Refused(18), blocks),
+        Mark::Vt => over(End::Refused(Refusal::OutOfTurn), blocks),
+        Mark::Rt => over(End::Refused(Refusal::OutOfTurn), blocks),
+        Mark::Pv => over(End::Refused(Refusal::OutOfTurn), blocks),
+        Mark::Pc => over(End::Refused(Refusal::OutOfTurn), blocks),
     }
 }
 
@@ -150,11 +150,11 @@ pub fn run(
         let turn = took.turn;
         blocks = took.blocks;
         match turn {
-            Turn::Goes => {
+            ControlFlow::Continue(()) => {
                 taken = taken + 1;
                 at = at + 2 + fields.len();
             }
-            Turn::Over(end) => {
+            ControlFlow::Break(end) => {
                 return Grown {
                     blocks,
                     count: taken,

@@ -11,8 +11,6 @@ use Rattle.blocks.specs.Add.{step}
 use Rattle.block_shape.specs.Shape.{Shaped}
 use Rattle.block_laws.proofs.Adds.{step_keeps, step_grows, step_stands}
 use Rattle.context.specs.declared.Phase.TheVariants.{Precommit}
-use Rattle.nodes.specs.declared.Found.{Found}
-use Rattle.nodes.specs.declared.Found.TheVariants.{At, Nothing}
 use Rattle.nodes.specs.Nodes.{col}
 use Rattle.answer_laws.specs.Seats.{Seated}
 use Rattle.answer_laws.proofs.Kept.{phase_seated}
@@ -21,14 +19,15 @@ use Rattle.importing.specs.Import.{Frame, with_table, Held, scene}
 use Rattle.held_laws.specs.Kept.{setting, Kept}
 use Rattle.held_laws.specs.Reached.{sought}
 use Rattle.held_laws.proofs.Parts.{kept_faithful, faithful_kept}
+use Rattle.std.specs.Prelude.{Option, Some, None}
 
 module _ (f : Frame) (h : Held) (k : Kept f h) where
   -- a table that has the blocks there were, at their places
   module _ (t : BlockTable) (shaped : Shaped t) (grown : Grown (blocks f.table) (blocks t))
       (same_ids : (x : ℕ) → x < f.table.count → col f.table.ids x ≡ col t.ids x) where
-    seat_more : (o : Found) → Seated f.table.parents f.base f.table.count o → Seated t.parents f.base t.count o
-    seat_more Nothing s = tt
-    seat_more (At b) s = (
+    seat_more : (o : Option ℕ) → Seated f.table.parents f.base f.table.count o → Seated t.parents f.base t.count o
+    seat_more None s = tt
+    seat_more (Some b) s = (
       omega (arith, s.0, grown.more),
       subst T (below_same f.table.count (col f.table.parents) (col t.parents) k.table.tree.falls grown.same_up f.base b s.0) s.1,
     )

@@ -1,6 +1,5 @@
 -- Demands 2 and 3 of reached states: what is stored is what the definitions tell while prevote equivocators are at most F, and no call
 -- takes back what was told.
-use mathlib.Core.Option.{Option, none, some}
 use mathlib.Core.Path.{◌≡◌, refl, sym, ap, subst, ◌∙◌}
 use Prim.Native.Nat.{ℕ, ◌≤◌, ◌<◌}
 use native.Mathlib.Omega.{arith}
@@ -12,9 +11,7 @@ use Rattle.grandpa.proofs.Kept.{told_kept}
 use Rattle.voter_laws.proofs.Goods.{total_used}
 use Rattle.context.specs.declared.Phase.TheVariants.{Prevote, Precommit}
 use Rattle.context.specs.Votes.{bit}
-use Rattle.nodes.specs.declared.Found.{Found}
 use Rattle.nodes.specs.Nodes.{col}
-use Rattle.nodes.specs.Columns.{as_found}
 use Rattle.answers.specs.declared.Answers.{Answers}
 use Rattle.answer_laws.specs.Faithful.{Setting, table, voters, votes, stored}
 use Rattle.answer_laws.specs.Tells.{Tells}
@@ -28,12 +25,13 @@ use Rattle.held_laws.proofs.Parts.{kept_faithful}
 use Rattle.held_laws.proofs.Reaches.{comes_kept, comes_framed, reached_kept}
 use Rattle.held_laws.proofs.Tells.{Telling, comes_tells, reached_tells}
 use Rattle.held_laws.proofs.Onward.{comes_grown, comes_later}
+use Rattle.std.specs.Prelude.{Option, Some, None}
 
-found_again : (o : Option ℕ) → as_option (as_found o) ≡ o
-found_again none = refl
-found_again (some x) = refl
+found_again : (o : Option ℕ) → as_option o ≡ o
+found_again None = refl
+found_again (Some x) = refl
 
-pub answered_stored : (p : Found) (x : Told) → answered (stored p x) ≡ x
+pub answered_stored : (p : Option ℕ) (x : Told) → answered (stored p x) ≡ x
 answered_stored p x =
     λ i. record {
       ghost = found_again x.ghost i;

@@ -11,7 +11,6 @@ use Rattle.loops.proofs.Sums.{weigh_le}
 use Rattle.grandpa.specs.Tree.{below}
 use Rattle.grandpa.specs.Vote.{Vote, silent, once, spoke}
 use Rattle.voter_info.specs.declared.VoterInfo.{VoterInfo}
-use Rattle.voter_info.specs.declared.Lookup.TheVariants.{Voter}
 use Rattle.voter_info.specs.Info.{look_up}
 use Rattle.voter_laws.proofs.Goods.{total_used}
 use Rattle.context.specs.declared.Phase.{Phase}
@@ -35,6 +34,7 @@ use Rattle.importing.proofs.Turns.{placed_in}
 use Rattle.held_laws.specs.Kept.{setting, Kept}
 use Rattle.held_laws.proofs.Parts.{cast_silent, kept_faithful, kept_apart}
 use Rattle.held_laws.proofs.Votes.{weight_there, cast_second, cast_once, heard_louder}
+use Rattle.std.specs.Prelude.{Some}
 
 -- heard weights fit
 heard_fits : (k : Setting) → Faithful k → (phase : Phase) → heard_in phase k.heard ≤ most
@@ -46,7 +46,7 @@ heard_fits k f Precommit =
 module _ (f : Frame) (h : Held) (k : Kept f h) (phase : Phase) (signer : ℕ) (p : Pair) where
   -- a first vote
   module _ (v : VoterInfo) (b : ℕ) (e : verdict f phase signer p h ≡ First v b) where
-    said : (look_up f.voters.ids f.voters.weights f.voters.count signer ≡ Voter v) × (col h.votes.counts (bit phase v.position) ≡ 0)
+    said : (look_up f.voters.ids f.voters.weights f.voters.count signer ≡ Some v) × (col h.votes.counts (bit phase v.position) ≡ 0)
         × Aimed f.table.ids f.table.numbers f.table.parents f.table.count f.base p b
     said =
         judged_first f.voters.ids f.voters.weights f.voters.count f.table.ids f.table.numbers f.table.parents f.table.count
@@ -91,7 +91,7 @@ module _ (f : Frame) (h : Held) (k : Kept f h) (phase : Phase) (signer : ℕ) (p
 
   -- a second
   module _ (v : VoterInfo) (a : Pair) (e : verdict f phase signer p h ≡ Second v a) where
-    spoken : (look_up f.voters.ids f.voters.weights f.voters.count signer ≡ Voter v) × (col h.votes.counts (bit phase v.position) ≡ 1)
+    spoken : (look_up f.voters.ids f.voters.weights f.voters.count signer ≡ Some v) × (col h.votes.counts (bit phase v.position) ≡ 1)
         × (a ≡ first_pair h.votes.first_block h.votes.first_signature f.table.ids f.table.numbers (bit phase v.position))
     spoken =
         judged_second f.voters.ids f.voters.weights f.voters.count f.table.ids f.table.numbers f.table.parents f.table.count

@@ -1,5 +1,4 @@
 -- What is stored in a reached state tells the four answers: calls keep it so, and the GHOST stays or moves down.
-use mathlib.Core.Option.{Option, none, some}
 use mathlib.Core.Path.{◌≡◌, refl, sym, subst}
 use Prim.Native.Nat.{ℕ, pred, ◌≤◌, ◌<◌}
 use native.Mathlib.Omega.{arith}
@@ -13,7 +12,6 @@ use Rattle.blocks.specs.Add.{step}
 use Rattle.context.specs.declared.Phase.{Phase}
 use Rattle.context.specs.declared.Phase.TheVariants.{Precommit}
 use Rattle.context.specs.Votes.{bit}
-use Rattle.nodes.specs.declared.Found.TheVariants as found
 use Rattle.nodes.specs.Nodes.{col}
 use Rattle.tracker.specs.declared.Pair.{Pair}
 use Rattle.judging.specs.declared.Verdict.{Verdict}
@@ -33,24 +31,25 @@ use Rattle.held_laws.proofs.Steps.{first_quiet, first_in_set, first_in_base, fir
 use Rattle.held_laws.proofs.Adds.{step_grown}
 use Rattle.held_laws.proofs.Reaches.{comes_kept, comes_voters}
 use Rattle.block_laws.proofs.Adds.{step_keeps}
+use Rattle.std.specs.Prelude.{Option, Some, None}
 
 module _ (up : ℕ → ℕ) (falls : (k : ℕ) → up k ≤ pred k) where
   down_same : (o : Option ℕ) → Down up o o
-  down_same none = tt
-  down_same (some g) = below_refl up falls g
+  down_same None = tt
+  down_same (Some g) = below_refl up falls g
 
   down_trans : (o r s : Option ℕ) → Down up o r → Down up r s → Down up o s
-  down_trans none r s d e = tt
-  down_trans (some a) none s d e = absurd d
-  down_trans (some a) (some b) none d e = absurd e
-  down_trans (some a) (some b) (some c) d e = below_trans up falls a b c d e
+  down_trans None r s d e = tt
+  down_trans (Some a) None s d e = absurd d
+  down_trans (Some a) (Some b) None d e = absurd e
+  down_trans (Some a) (Some b) (Some c) d e = below_trans up falls a b c d e
 
 -- the same on a table with more blocks
 down_more : (k : Setting) → Faithful k → (up : ℕ → ℕ) → ((x : ℕ) → x < k.count → col k.parents x ≡ up x) → (o r : Option ℕ) → AllWithin k r
     → Down (col k.parents) o r → Down up o r
-down_more k f up same none r w d = tt
-down_more k f up same (some a) none w d = absurd d
-down_more k f up same (some a) (some b) w d = subst T (below_same k.count (col k.parents) up f.tabled.falls same a b (tabled_in k f b w)) d
+down_more k f up same None r w d = tt
+down_more k f up same (Some a) None w d = absurd d
+down_more k f up same (Some a) (Some b) w d = subst T (below_same k.count (col k.parents) up f.tabled.falls same a b (tabled_in k f b w)) d
 
 -- the answers that another state stores, beside the GHOST o of an earlier one
 abbrev pub Telling : Frame → Held → Option ℕ → Type 0
@@ -110,6 +109,6 @@ reached_tells f h r some_weight =
     let first = r.start in
     let start = opened_held first.base in
     let weighs = subst (λ (v : VoterSet). 0 < v.total) (comes_voters first start f h r.calls) some_weight in
-    let told = opened_tells (setting first start) no_cast (omega (arith, weighs, total_used first.voters r.opens.good)) found.Nothing in
-    let x = comes_tells first start (opened_kept first r.opens) none told f h r.calls in
+    let told = opened_tells (setting first start) no_cast (omega (arith, weighs, total_used first.voters r.opens.good)) None in
+    let x = comes_tells first start (opened_kept first r.opens) None told f h r.calls in
     (x.0, x.2)

@@ -22,8 +22,6 @@ use Rattle.context.specs.declared.Phase.TheVariants.{Prevote, Precommit}
 use Rattle.context.specs.Votes.{bit, voted, weight_of}
 use Rattle.context.proofs.Contexts.{weight_good}
 use Rattle.graph.specs.Shape.{Targets}
-use Rattle.nodes.specs.declared.Found.{Found}
-use Rattle.nodes.specs.declared.Found.TheVariants.{At, Nothing}
 use Rattle.nodes.specs.Nodes.{col, row}
 use Rattle.nodes.specs.Columns.{Sound}
 use Rattle.graph_shape.specs.Graphed.{Clear}
@@ -36,6 +34,7 @@ use Rattle.answer_laws.specs.Seats.{Seated, AllSeated}
 use Rattle.importing.specs.Import.{Frame, Held, Lengths}
 use Rattle.held_laws.specs.Kept.{setting, Kept}
 use Rattle.held_laws.specs.Tested.{VotesPass, WeightsPass, BlocksPass}
+use Rattle.std.specs.Prelude.{Option, Some, None}
 
 module _ (f : Frame) (h : Held) where
   module _ (good : Good f.voters) (fits : f.voters.total ≤ most)
@@ -72,18 +71,18 @@ module _ (f : Frame) (h : Held) where
     means_weighed a b =
         both (as_bits Prevote) (as_bits Precommit) (T_true (eq-eqb _ _ (a ∙ sym (root_heard Prevote)))) (T_true (eq-eqb _ _ (b ∙ sym (root_heard Precommit))))
 
-  abbrev seat : Found → Type 0
+  abbrev seat : Option ℕ → Type 0
   seat o = Seated f.table.parents f.base f.table.count o
 
-  seat_means : (o : Found) → T (stored f.table.parents f.table.count f.base o) → seat o
-  seat_means Nothing t = tt
-  seat_means (At b) t = (ltb→lt b f.table.count (left_of (ltb b f.table.count) _ t), right_of (ltb b f.table.count) _ t)
+  seat_means : (o : Option ℕ) → T (stored f.table.parents f.table.count f.base o) → seat o
+  seat_means None t = tt
+  seat_means (Some b) t = (ltb→lt b f.table.count (left_of (ltb b f.table.count) _ t), right_of (ltb b f.table.count) _ t)
 
-  means_seat : (o : Found) → seat o → T (stored f.table.parents f.table.count f.base o)
-  means_seat Nothing s = tt
-  means_seat (At b) s = both (ltb b f.table.count) _ (T_true (lt-ltb b f.table.count s.0)) s.1
+  means_seat : (o : Option ℕ) → seat o → T (stored f.table.parents f.table.count f.base o)
+  means_seat None s = tt
+  means_seat (Some b) s = both (ltb b f.table.count) _ (T_true (lt-ltb b f.table.count s.0)) s.1
 
-  abbrev kept_in : Found → Bool
+  abbrev kept_in : Option ℕ → Bool
   kept_in o = stored f.table.parents f.table.count f.base o
 
   stored_means : BlocksPass f h → AllSeated f.table.parents f.base f.table.count h.answers

@@ -12,12 +12,9 @@ use borrow.Author.Tests.{eq-eqb, ne_eqb}
 use Rattle.sizes.specs.Sizes.{VOTES}
 use Rattle.layouts.specs.Layout.{index_place}
 use Rattle.weights.specs.Weights.{most, plus}
-use Rattle.columns.specs.declared.Found.{Found}
-use Rattle.columns.specs.declared.Found.TheVariants as found
 use Rattle.columns.specs.Find.{find}
 use Rattle.grandpa.specs.Vote.{once, twice}
 use Rattle.voter_info.specs.declared.VoterInfo.{VoterInfo}
-use Rattle.voter_info.specs.declared.Lookup.TheVariants.{Voter}
 use Rattle.voter_info.specs.Info.{look_up}
 use Rattle.voter_info.proofs.Infos.{look_up_at, look_up_nothing, info_says}
 use Rattle.context.specs.declared.Phase.{Phase}
@@ -34,16 +31,17 @@ use Rattle.answers.specs.declared.Heard.{Heard}
 use Rattle.answer_laws.specs.Faithful.{heard_in}
 use Rattle.answer_laws.specs.Tells.{louder, with_second}
 use Rattle.importing.specs.Import.{with_heard}
+use Rattle.std.specs.Prelude.{Option, Some, None}
 
 -- a voter that is found has the weight of its place
-pub weight_there : (ids weights : List ℕ) (n x : ℕ) (v : VoterInfo) → look_up ids weights n x ≡ Voter v → v.weight.0 ≡ get_or weights v.position 0
+pub weight_there : (ids weights : List ℕ) (n x : ℕ) (v : VoterInfo) → look_up ids weights n x ≡ Some v → v.weight.0 ≡ get_or weights v.position 0
 weight_there ids weights n x v e = go (find ids n x) refl
   where
-    go : (o : Found) → find ids n x ≡ o → v.weight.0 ≡ get_or weights v.position 0
-    go (found.At k) q =
+    go : (o : Option ℕ) → find ids n x ≡ o → v.weight.0 ≡ get_or weights v.position 0
+    go (Some k) q =
         let i = info_says k _ v (sym (look_up_at ids weights n x k q) ∙ e) in
         ap (λ (z : VoterInfo). z.weight.0) i.1 ∙ ap (λ (z : VoterInfo). get_or weights z.position 0) (sym i.1)
-    go found.Nothing q = let o = look_up_nothing ids weights n x q in absurd (let z : ◌≡◌ {A = ℕ} 0 1 = cc in omega arith)
+    go None q = let o = look_up_nothing ids weights n x q in absurd (let z : ◌≡◌ {A = ℕ} 0 1 = cc in omega arith)
 
 -- the place of a voter's bit
 pub place_fits : (phase : Phase) (p size : ℕ) → p < size → index_place (bit phase p) < size

@@ -1,7 +1,7 @@
 -- The shape of a round as facts. Document 01, "Shape rules": counts within sizes; the table as in Sizes; voter ids rising, weights
 -- non-zero, total and T as above; vote-nodes, listing and heads; history; heard weights, node bits and equivocator bits as the
 -- recorded votes say; stored blocks in the table, at or below the base; unused places 0. The answers are not held to the votes.
-use Rattle.std.specs.Prelude.{◌≡◌, ◌≤◌}
+use Rattle.std.specs.Prelude.{◌≡◌, ◌≤◌, Result, Ok, Err}
 use Rattle.weights.specs.Weights.{most}
 use Rattle.grandpa.specs.Vote.{heard}
 use Rattle.voter_set.specs.Good.{Good}
@@ -15,8 +15,9 @@ use Rattle.vote_shape_laws.specs.Recorded.{Recorded}
 use Rattle.answer_laws.specs.Faithful.{Setting, voters, votes}
 use Rattle.answer_laws.specs.Seats.{AllSeated}
 use Rattle.judging.specs.declared.ImportResult.{ImportResult}
-use Rattle.judging.specs.declared.ImportResult.TheVariants.{Outside, Counted, Duplicated, Equivocated, Ignored, Refused}
+use Rattle.judging.specs.declared.ImportResult.TheVariants.{Outside, Counted, Duplicated, Equivocated, Ignored}
 use Rattle.importing.specs.Import.{Frame, Held}
+use Rattle.refusals.specs.declared.Refusal.{Refusal}
 
 -- the round as the laws of the answers see it
 abbrev pub setting : Frame → Held → Setting
@@ -49,10 +50,10 @@ pub record Kept (f : Frame) (h : Held) : Type 0 where
   pub seated : AllSeated f.table.parents f.base f.table.count h.answers
 
 -- the answers of votes that are not taken: of a stranger, refused, a duplicate, a third
-abbrev pub Untaken : ImportResult → Type 0
-Untaken Outside = Unit {0}
-Untaken (Refused n) = Unit {0}
-Untaken Duplicated = Unit {0}
-Untaken Ignored = Unit {0}
-Untaken Counted = ⊥
-Untaken (Equivocated x) = ⊥
+abbrev pub Untaken : Result ImportResult Refusal → Type 0
+Untaken (Ok Outside) = Unit {0}
+Untaken (Err n) = Unit {0}
+Untaken (Ok Duplicated) = Unit {0}
+Untaken (Ok Ignored) = Unit {0}
+Untaken (Ok Counted) = ⊥
+Untaken (Ok (Equivocated x)) = ⊥

@@ -1,7 +1,6 @@
 -- A search down the vote graph ends at or below the base where it starts there.
 use mathlib.Core.Bool.{Bool, cond}
 use mathlib.Core.List.{List, [], ◌∷◌}
-use mathlib.Core.Option.{Option, none, some}
 use mathlib.Core.Path.{◌≡◌, refl, sym, subst}
 use mathlib.Core.Logic.{◌≢◌, ◌⊎◌, inl, inr}
 use Prim.Native.Nat.{ℕ, zero, suc, ◌<◌}
@@ -20,10 +19,9 @@ use Rattle.context.specs.declared.Phase.TheVariants.{Prevote, Precommit}
 use Rattle.graph.specs.Graph.{tally, children}
 use Rattle.graph.specs.Ghost.{towards, first_in, meets, merge, settle, under, following, find_ghost}
 use Rattle.graph.proofs.Followed.{under_is, towards_says}
-use Rattle.nodes.specs.declared.Found.{Found}
 use Rattle.nodes.specs.declared.Question.{Question}
 use Rattle.nodes.specs.Nodes.{col, Falls, passes}
-use Rattle.nodes.specs.Columns.{Columns, Sound, view, as_found}
+use Rattle.nodes.specs.Columns.{Columns, Sound, view}
 use Rattle.vote_merge.specs.Merges.{Lower}
 use Rattle.vote_merge.proofs.Meetings.{meets_at}
 use Rattle.vote_merge.proofs.Lowers.{lower_kept}
@@ -32,6 +30,7 @@ use Rattle.answers.specs.declared.Answers.{Answers}
 use Rattle.answers.specs.declared.Heard.{Heard}
 use Rattle.answers.specs.Update.{Scene, weighty, start_of, ghost_from, phase_ghost, with_ghost, InBase, Grounded}
 use Rattle.answers.proofs.Steps.{start_in}
+use Rattle.std.specs.Prelude.{Option, Some, None}
 
 -- the first that passes is in the list
 first_there : (p : ℕ → Bool) (l : List ℕ) → first_in p l ≢ 0 → 0 < times (first_in p l) l
@@ -74,10 +73,10 @@ module _ (parents ids : List ℕ) (base count : ℕ) (g : Columns) (sound : Soun
       (under_is (col parents) sound.parents_fall b (first_in p ns) (lower _ (first_there p ns (eqb-false _ _ (false_T _ t))))).0
       (settle_in f (first_in p ns) (children (col parents) (view g) (first_in p ns)) (lower_children parents ids base count g sound (first_in p ns))))
 
-  ghost_in : (b : ℕ) → T (below (col parents) base b) → InBase parents base (as_found (find_ghost (col parents) (view g) ok b))
+  ghost_in : (b : ℕ) → T (below (col parents) base b) → InBase parents base ((find_ghost (col parents) (view g) ok b))
   unfolding find_ghost
   ghost_in b h =
-      by_test (λ (o : Option ℕ). InBase parents base (as_found o)) (ok (tally (col parents) (view g) b)) (some (settle (col parents) (view g) ok BLOCKS b (following (col parents) (view g) b))) none
+      by_test (λ (o : Option ℕ). InBase parents base o) (ok (tally (col parents) (view g) b)) (Some (settle (col parents) (view g) ok BLOCKS b (following (col parents) (view g) b))) None
       (λ t. below_trans (col parents) sound.parents_fall base b _ h (settle_in BLOCKS b _ (lower_following parents ids base count g sound b))) (λ t. tt)
 
 -- the stored prevote-GHOST stays at or below the base

@@ -8,16 +8,12 @@ use lib.Dec.{T}
 use lib.ListN.{set}
 use Rattle.sizes.specs.Sizes.{VOTERS, HISTORY}
 use Rattle.layouts.specs.Layout.{entry}
-use Rattle.columns.specs.declared.Found.{Found}
-use Rattle.columns.specs.declared.Found.TheVariants as found
 use Rattle.columns.specs.Find.{find}
 use Rattle.columns.proofs.Finds.{find_at}
 use Rattle.grandpa.specs.Tree.{below}
 use Rattle.voter_info.specs.declared.VoterInfo.{VoterInfo}
-use Rattle.voter_info.specs.declared.Lookup.TheVariants.{Voter}
 use Rattle.voter_info.specs.Info.{look_up}
-use Rattle.blocks.specs.declared.Place.TheVariants as place
-use Rattle.blocks.specs.Add.{as_place, place_of}
+use Rattle.blocks.specs.Add.{place_of}
 use Rattle.bitfield.specs.Bits.{put}
 use Rattle.context.specs.declared.Phase.{Phase}
 use Rattle.context.specs.Votes.{bit}
@@ -38,19 +34,20 @@ use Rattle.answers.specs.declared.Answers.{Answers}
 use Rattle.answers.specs.declared.Heard.{Heard}
 use Rattle.answers.specs.Update.{scene, told_after, Grounded}
 use Rattle.importing.specs.Import.{Frame, Held, Taken, Ready, with_answers, with_pair, with_heard, verdict, import}
+use Rattle.std.specs.Prelude.{Option, Some, None, Ok}
 
 -- a block that is found is in the table
-pub placed_in : (ids : List ℕ) (count id b : ℕ) → place_of ids count id ≡ place.At b → b < count
+pub placed_in : (ids : List ℕ) (count id b : ℕ) → place_of ids count id ≡ Some b → b < count
 unfolding place_of
 placed_in ids count id b e = go (find ids count id) refl e
   where
-    go : (o : Found) → find ids count id ≡ o → as_place o ≡ place.At b → b < count
-    go (found.At k) q r = let i : k ≡ b = cc in omega (arith, (find_at ids count id k q).inside)
-    go found.Nothing q r = absurd (let z : ◌≡◌ {A = ℕ} 0 1 = cc in omega arith)
+    go : (o : Option ℕ) → find ids count id ≡ o → o ≡ Some b → b < count
+    go (Some k) q r = let i : k ≡ b = cc in omega (arith, (find_at ids count id k q).inside)
+    go None q r = absurd (let z : ◌≡◌ {A = ℕ} 0 1 = cc in omega arith)
 
 module _ (f : Frame) (h : Held) (ready : Ready f h) (phase : Phase) (signer : ℕ) (p : Pair) where
   module _ (v : VoterInfo) (b : ℕ) (e : verdict f phase signer p h ≡ First v b) where
-    said : (look_up f.voters.ids f.voters.weights f.voters.count signer ≡ Voter v) × (col h.votes.counts (bit phase v.position) ≡ 0)
+    said : (look_up f.voters.ids f.voters.weights f.voters.count signer ≡ Some v) × (col h.votes.counts (bit phase v.position) ≡ 0)
         × Aimed f.table.ids f.table.numbers f.table.parents f.table.count f.base p b
     said =
         judged_first f.voters.ids f.voters.weights f.voters.count f.table.ids f.table.numbers f.table.parents f.table.count
@@ -82,7 +79,7 @@ module _ (f : Frame) (h : Held) (ready : Ready f h) (phase : Phase) (signer : �
         })
 
   module _ (v : VoterInfo) (a : Pair) (e : verdict f phase signer p h ≡ Second v a) where
-    spoken : (look_up f.voters.ids f.voters.weights f.voters.count signer ≡ Voter v) × (col h.votes.counts (bit phase v.position) ≡ 1)
+    spoken : (look_up f.voters.ids f.voters.weights f.voters.count signer ≡ Some v) × (col h.votes.counts (bit phase v.position) ≡ 1)
         × (a ≡ first_pair h.votes.first_block h.votes.first_signature f.table.ids f.table.numbers (bit phase v.position))
     spoken =
         judged_second f.voters.ids f.voters.weights f.voters.count f.table.ids f.table.numbers f.table.parents f.table.count
@@ -107,7 +104,7 @@ module _ (f : Frame) (h : Held) (ready : Ready f h) (phase : Phase) (signer : �
       → a ≡ told_after (scene f.table.parents f.base f.voters.weights f.voters.threshold g h.equivocations) f.voters.total w phase h.answers
       → ◌≡◌ {A = Taken}
       (record {
-        answer = Counted;
+        answer = Ok Counted;
         held = with_answers (with_pair h g (with_first h.votes j b p.signature) x h.equivocations w) a;
       })
       (import f phase signer p h)
@@ -121,7 +118,7 @@ module _ (f : Frame) (h : Held) (ready : Ready f h) (phase : Phase) (signer : �
       → a ≡ told_after (scene f.table.parents f.base f.voters.weights f.voters.threshold h.graph z) f.voters.total h.heard phase h.answers
       → ◌≡◌ {A = Taken}
       (record {
-        answer = Equivocated (record { number = f.number; identity = signer; first = c; second = p });
+        answer = Ok (Equivocated (record { number = f.number; identity = signer; first = c; second = p }));
         held =
             with_answers
             (with_pair h h.graph (with_second h.votes j p.target p.number p.signature) x z h.heard) a;

@@ -1,7 +1,7 @@
 -- How a vote is taken. Document 01, "How a vote is taken": 2, a first vote is recorded, put into the graph, appended to history; 4, a
 -- second pair is an equivocation, reported with both pairs in arrival order, the signer's weight heard once, its target in
 -- history only. Only 2 and 4 run the update.
-use Rattle.std.specs.Prelude.{Bool, List, ◌≡◌, ◌≢◌, ℕ, ◌+◌, ◌≤◌, ◌<◌, T, set, length, replicate}
+use Rattle.std.specs.Prelude.{Bool, List, ◌≡◌, ◌≢◌, ℕ, ◌+◌, ◌≤◌, ◌<◌, T, set, length, replicate, Result, Ok}
 use Rattle.sizes.specs.Sizes.{WORDS, VOTERS, VOTES, HISTORY}
 use Rattle.layouts.specs.Layout.{entry}
 use Rattle.weights.specs.Weights.{plus}
@@ -28,6 +28,7 @@ use Rattle.answers.specs.declared.Answers.{Answers}
 use Rattle.answers.specs.declared.Heard.{Heard}
 use Rattle.answers.specs.Update.{no_heard, no_answers, heard_as, Scene, told_after, InBase}
 use Rattle.importing.specs.declared.Standing.{Standing}
+use Rattle.refusals.specs.declared.Refusal.{Refusal}
 
 -- what no vote changes
 pub record Frame : Type 0 where
@@ -152,18 +153,18 @@ with_second phase v p h =
 
 -- the answer and what is held after it
 pub record Taken : Type 0 where
-  pub answer : ImportResult
+  pub answer : (Result ImportResult Refusal)
   pub held : Held
 
-abbrev pub taken : ImportResult → Held → Taken
+abbrev pub taken : Result ImportResult Refusal → Held → Taken
 taken answer held = record { answer = answer; held = held }
 
 abbrev pub apply : Frame → Phase → ℕ → Pair → Held → Verdict → Taken
 apply f phase signer p h (Nothing a) = record { answer = a; held = h }
-apply f phase signer p h (First v b) = record { answer = Counted; held = updated f phase (with_first f phase v b p h) }
+apply f phase signer p h (First v b) = record { answer = Ok Counted; held = updated f phase (with_first f phase v b p h) }
 apply f phase signer p h (Second v a) =
     record {
-      answer = Equivocated (record { number = f.number; identity = signer; first = a; second = p });
+      answer = Ok (Equivocated (record { number = f.number; identity = signer; first = a; second = p }));
       held = updated f phase (with_second phase v p h);
     }
 

@@ -12,6 +12,7 @@ ghost use Rattle.importing.specs.Lent.{frame_at, held_at};
 use answers::{Answers, Heard};
 use context::Phase;
 use judging::{Equivocation, ImportResult, Verdict};
+use refusals::Refusal;
 use sizes::{BLOCKS, HISTORY, VOTERS, VOTES, WORDS};
 use tracker::Pair;
 use weights::{VoteWeight, VoterWeight};
@@ -29,7 +30,7 @@ pub struct Standing {
 
 #[derive(Clone, Copy)]
 pub struct Step {
-    pub answer: ImportResult,
+    pub answer: Result<ImportResult, Refusal>,
     pub standing: Standing,
 }
 
@@ -236,7 +237,7 @@ pub fn import<'a>(
                 stored,
             );
             Step {
-                answer: ImportResult::Counted,
+                answer: Ok(ImportResult::Counted),
                 standing: Standing {
                     listed,
                     tips,
@@ -268,7 +269,7 @@ pub fn import<'a>(
                 second: pair,
             };
             Step {
-                answer: ImportResult::Equivocated(told),
+                answer: Ok(ImportResult::Equivocated(told)),
                 standing: Standing {
                     listed,
                     tips,

@@ -8,12 +8,10 @@ use lib.Seq.{drop-drop}
 use Rattle.sizes.specs.Sizes.{PAIRS}
 use Rattle.weights.specs.Weights.{most}
 use Rattle.voter_set.specs.declared.VoterSet.{VoterSet}
-use Rattle.voter_set.specs.declared.NewVoterSet.{NewVoterSet}
 use Rattle.voter_set.specs.declared.Answer.TheVariants as voters
 use Rattle.voter_set.specs.Voters.{new}
 use Rattle.voter_laws.proofs.Made.{made_fit, made_total, new_good}
 use Rattle.blocks.specs.declared.BlockTable.{BlockTable}
-use Rattle.blocks.specs.declared.Place.TheVariants.{At, Nothing}
 use Rattle.blocks.specs.Add.{place_of}
 use Rattle.block_shape.specs.Shape.{Shaped}
 use Rattle.block_table.specs.Add as table
@@ -31,7 +29,6 @@ use Rattle.marks.specs.declared.End.TheVariants.{Cut, Refused, Left}
 use Rattle.marks.specs.Marks.{read, fields, after, word, long}
 use Rattle.runs.specs.Run.{Run, ended, ran, counted}
 use Rattle.runs.proofs.Turns.{part_drop}
-use Rattle.round.specs.declared.Index.TheVariants as index
 use Rattle.round.specs.declared.Round.{Round}
 use Rattle.round.specs.Shape.{frame, held_lent, held}
 use Rattle.round.specs.Calls.{made, opened}
@@ -49,10 +46,13 @@ use Rattle.journal.specs.declared.Progress.{Progress}
 use Rattle.journal.specs.Journal.{round_of, laid, told_by, told, run_of, run_from}
 use Rattle.journal.proofs.Turning.{open_refused, open_goes, root_refused, root_goes}
 use Rattle.journal.proofs.Through.{voters_cut, voters_refused, voters_left, voters_rt, blocks_cut, blocks_refused, blocks_left, blocks_shaped, blocks_op, votes_through}
+use Rattle.std.specs.Prelude.{Some, None, Result}
+use Rattle.refusals.specs.declared.Refusal.TheVariants.{UnknownBase}
+use Rattle.refusals.specs.declared.Refusal.{Refusal}
 
 -- a round after some votes, with its rows as code makes them
 abbrev round_by : Voting → List Row → Round
-round_by v rows = made v.frame v.held rows index.Nothing index.Nothing
+round_by v rows = made v.frame v.held rows None None
 
 same : (v : Voting) → round_by v (rows_of v.held.graph.rows) ≡ round_of v
 unfolding round_of
@@ -102,10 +102,10 @@ module _ (v : VoterSet) (t : BlockTable) (stands : Stands Kept (growing v t)) (b
   sought : (o : _) → place_of t.ids t.count base ≡ o → place_of t.ids t.count (word (fields Op bs) 8) ≡ o
   sought o e = ap (place_of t.ids t.count) (ap (λ l. word l 8) (sym all) ∙ sym named) ∙ e
 
-  pub op_refused : place_of t.ids t.count base ≡ Nothing → (j : Journal) → j ≡ laid (growing v t) → ended j 0 bs (Refused 10) ≡ run_from (growing v t) bs
-  op_refused e j f = ap (λ (x : Journal). ended x 0 bs (Refused 10)) f ∙ sym (open_refused v t bs whole (sought Nothing e))
+  pub op_refused : place_of t.ids t.count base ≡ None → (j : Journal) → j ≡ laid (growing v t) → ended j 0 bs (Refused UnknownBase) ≡ run_from (growing v t) bs
+  op_refused e j f = ap (λ (x : Journal). ended x 0 bs (Refused UnknownBase)) f ∙ sym (open_refused v t bs whole (sought None e))
 
-  module _ (number : ℕ) (told : number ≡ long fs 0) (b : ℕ) (found : place_of t.ids t.count base ≡ At b) (r : Round) (is_opened : r ≡ opened number v t b) where
+  module _ (number : ℕ) (told : number ≡ long fs 0) (b : ℕ) (found : place_of t.ids t.count base ≡ Some b) (r : Round) (is_opened : r ≡ opened number v t b) where
     abbrev start : Voting
     start = opened_round number v t b
 
@@ -127,26 +127,26 @@ module _ (v : VoterSet) (t : BlockTable) (stands : Stands Kept (growing v t)) (b
         → q ≡ record { journal = p.journal; count = 1 + p.count; at = 14 + p.at; end = p.end } → run_of q bs ≡ run_from (growing v t) bs
     unfolding after
     op_done p q e f =
-        later_done (growing v t) (voting (opened_round (long (fields Op bs) 0) v t b)) 1 14 bs (open_goes v t bs whole b (sought (At b) found)) p q
+        later_done (growing v t) (voting (opened_round (long (fields Op bs) 0) v t b)) 1 14 bs (open_goes v t bs whole b (sought (Some b) found)) p q
         (part_run _ p 14 bs
         (e ∙ ap (λ (s : Voting). run_from (voting s) (part 14 bs)) (λ i. record { frame = frame_start i; held = held_start i })
         ∙ ap (λ n. run_from (voting (opened_round n v t b)) (part 14 bs)) (told ∙ ap (λ l. long l 0) all)))
         f
 
 -- the Rt
-module _ (p : Pairs) (bs : List ℕ) (whole : read bs ≡ is.Whole Rt) (fs : List ℕ) (all : fs ≡ fields Rt bs) (m : NewVoterSet)
+module _ (p : Pairs) (bs : List ℕ) (whole : read bs ≡ is.Whole Rt) (fs : List ℕ) (all : fs ≡ fields Rt bs) (m : Result VoterSet Refusal)
     (made : m ≡ new (take p.count p.ids) (take p.count p.weights)) where
   pub rt_refused : (n : ℕ) → m.answer ≡ voters.Refused n → (j : Journal) → j ≡ laid (pairing p) → ended j 0 bs (Refused n) ≡ run_from (pairing p) bs
   rt_refused n e j f =
-      ap (λ (x : Journal). ended x 0 bs (Refused n)) f ∙ sym (root_refused p bs whole n (ap (λ (x : NewVoterSet). x.answer) (sym made) ∙ e))
+      ap (λ (x : Journal). ended x 0 bs (Refused n)) f ∙ sym (root_refused p bs whole n (ap (λ (x : Result VoterSet Refusal). x.answer) (sym made) ∙ e))
 
   module _ (yes : m.answer ≡ voters.Made) (a b : ℕ) (root : a ≡ word fs 0) (height : b ≡ word fs 4) (t : BlockTable) (is_table : t ≡ table.opened a b) where
     is_made : (new (take p.count p.ids) (take p.count p.weights)).answer ≡ voters.Made
-    is_made = ap (λ (x : NewVoterSet). x.answer) (sym made) ∙ yes
+    is_made = ap (λ (x : Result VoterSet Refusal). x.answer) (sym made) ∙ yes
 
     pub rt_ready : Stands Kept (growing m.voters t)
     rt_ready =
-        subst (λ (x : NewVoterSet). Stands Kept (growing x.voters t)) (sym made)
+        subst (λ (x : Result VoterSet Refusal). Stands Kept (growing x.voters t)) (sym made)
         (subst (λ (u : BlockTable). Stands Kept (growing (new (take p.count p.ids) (take p.count p.weights)).voters u)) (sym is_table) (
           new_good (take p.count p.ids) (take p.count p.weights),
           subst (λ n. n ≤ most) (sym (made_total (take p.count p.ids) (take p.count p.weights) is_made))
@@ -162,7 +162,7 @@ module _ (p : Pairs) (bs : List ℕ) (whole : read bs ≡ is.Whole Rt) (fs : Lis
         (growing (new (take p.count p.ids) (take p.count p.weights)).voters (table.opened (word (fields Rt bs) 0) (word (fields Rt bs) 4))) 1 10 bs
         (root_goes p bs whole is_made) x y
         (part_run _ x 10 bs
-        (e ∙ ap (λ (n : NewVoterSet). run_from (growing n.voters t) (part 10 bs)) made
+        (e ∙ ap (λ (n : Result VoterSet Refusal). run_from (growing n.voters t) (part 10 bs)) made
         ∙ ap (λ (u : BlockTable). run_from (growing (new (take p.count p.ids) (take p.count p.weights)).voters u) (part 10 bs))
         (is_table ∙ (λ i. table.opened ((root ∙ ap (λ l. word l 0) all) i) ((height ∙ ap (λ l. word l 4) all) i)))))
         f

@@ -8,9 +8,6 @@ use lib.Dec.{leb}
 use Rattle.sizes.specs.Sizes.{PAIRS}
 use Rattle.voter_set.specs.declared.VoterSet.{VoterSet}
 use Rattle.blocks.specs.declared.BlockTable.{BlockTable}
-use Rattle.blocks.specs.declared.Answer.{Answer}
-use Rattle.blocks.specs.declared.Answer.TheVariants as answer
-use Rattle.blocks.specs.declared.Answer.TheVariants.{Placed}
 use Rattle.block_shape.specs.Shape.{Shaped}
 use Rattle.context.specs.declared.Phase.TheVariants.{Prevote, Precommit}
 use Rattle.importing.specs.Import.{import}
@@ -40,6 +37,9 @@ use Rattle.turns.specs.Turns.{pairing, growing, voting, rooted, based, took}
 use Rattle.turns.proofs.Keeps.{Then, paired_few, grown_shaped, voted_has}
 use Rattle.journal.specs.Journal.{laid, run_from}
 use Rattle.journal.proofs.Turning.{from_ended, from_counted}
+use Rattle.std.specs.Prelude.{Result, Ok, Err}
+use Rattle.refusals.specs.declared.Refusal.{Refusal}
+use Rattle.refusals.specs.declared.Refusal.TheVariants.{OutOfTurn, VoterList}
 
 -- a step inside the whole one: what it does, the whole one does
 module _ {S : Type 0} (step : S → Mark → List ℕ → Next S) (e : S → turns.Journal) (left : S → Mark → List ℕ → Next turns.Journal)
@@ -85,7 +85,7 @@ unfolding paired
 paired_left p Rt fs e = refl
 paired_left p Vt fs e = go (leb PAIRS p.count) e
   where
-    go : (b : Bool) → cond b (stops 1) (goes (with_pair p (word fs 0) (long fs 4))) ≡ leaves → Vt ≡ Rt
+    go : (b : Bool) → cond b (stops VoterList) (goes (with_pair p (word fs 0) (long fs 4))) ≡ leaves → Vt ≡ Rt
     go true e = apart 1 e
     go false e = gone _ e
 paired_left p Bk fs e = apart 18 e
@@ -98,29 +98,29 @@ unfolding grown
 grown_left t Op fs e = refl
 grown_left t Bk fs e = go (added t fs).answer e
   where
-    go : (a : Answer) → answered (added t fs).table a ≡ leaves → Bk ≡ Op
-    go (Placed k) e = gone _ e
-    go (answer.Refused n) e = apart n e
+    go : (a : Result ℕ Refusal) → answered (added t fs).table a ≡ leaves → Bk ≡ Op
+    go (Ok k) e = gone _ e
+    go (Err n) e = apart n e
 grown_left t Vt fs e = apart 18 e
 grown_left t Rt fs e = apart 18 e
 grown_left t Pv fs e = apart 18 e
 grown_left t Pc fs e = apart 18 e
 
-answered_goes : (r : Voting) (a : ImportResult) → votes.answered r a ≡ leaves → ⊥
-answered_goes r (result.Refused n) e = apart n e
-answered_goes r result.Outside e = gone r e
-answered_goes r result.Counted e = gone r e
-answered_goes r result.Duplicated e = gone r e
-answered_goes r (result.Equivocated x) e = gone r e
-answered_goes r result.Ignored e = gone r e
+answered_goes : (r : Voting) (a : Result ImportResult Refusal) → votes.answered r a ≡ leaves → ⊥
+answered_goes r (Err n) e = apart n e
+answered_goes r (Ok result.Outside) e = gone r e
+answered_goes r (Ok result.Counted) e = gone r e
+answered_goes r (Ok result.Duplicated) e = gone r e
+answered_goes r (Ok (result.Equivocated x)) e = gone r e
+answered_goes r (Ok result.Ignored) e = gone r e
 
 voted_goes : (r : Voting) (m : Mark) (fs : List ℕ) → voted r m fs ≡ leaves → ⊥
 unfolding voted votes.counted grown
 voted_goes r Bk fs e = go (added r.frame.table fs).answer e
   where
-    go : (a : Answer) → with_blocks r (answered (added r.frame.table fs).table a) ≡ leaves → ⊥
-    go (Placed k) e = gone _ e
-    go (answer.Refused n) e = apart n e
+    go : (a : Result ℕ Refusal) → with_blocks r (answered (added r.frame.table fs).table a) ≡ leaves → ⊥
+    go (Ok k) e = gone _ e
+    go (Err n) e = apart n e
 voted_goes r Pv fs e = answered_goes _ (import r.frame Prevote (word fs 0) (pair_in fs) r.held).answer e
 voted_goes r Pc fs e = answered_goes _ (import r.frame Precommit (word fs 0) (pair_in fs) r.held).answer e
 voted_goes r Vt fs e = apart 18 e
@@ -177,7 +177,7 @@ module _ (v : VoterSet) (t u : BlockTable) (shaped : Shaped t) (n : ℕ) (bs res
 
 -- the third turn is never left
 module _ (r s : Voting) (kept : Kept r.frame r.held) (n : ℕ) (bs rest : List ℕ) where
-  does_vote : (r : Voting) (m : Mark) (fs : List ℕ) → took (voting r) m fs ≡ on_next (voted r m fs) (λ s. goes (voting s)) stops (stops 18)
+  does_vote : (r : Voting) (m : Mark) (fs : List ℕ) → took (voting r) m fs ≡ on_next (voted r m fs) (λ s. goes (voting s)) stops (stops OutOfTurn)
   unfolding took
   does_vote r m fs = refl
 
@@ -185,9 +185,9 @@ module _ (r s : Voting) (kept : Kept r.frame r.held) (n : ℕ) (bs rest : List �
   Shapely r = Kept r.frame r.held
 
   pub votes_through : (x : End) → ended s n rest x ≡ ran voted r bs → run_from (voting r) bs ≡ ended (laid (voting s)) n rest x
-  votes_through Cut e = through_cut voted voting (λ r m fs. stops 18) does_vote Shapely (voted_has Kept opened_kept import_keeps adding_keeps) r s kept n bs rest e
+  votes_through Cut e = through_cut voted voting (λ r m fs. stops OutOfTurn) does_vote Shapely (voted_has Kept opened_kept import_keeps adding_keeps) r s kept n bs rest e
   votes_through (Refused k) e =
-      through_refused voted voting (λ r m fs. stops 18) does_vote Shapely (voted_has Kept opened_kept import_keeps adding_keeps) r s kept n bs rest k e
+      through_refused voted voting (λ r m fs. stops OutOfTurn) does_vote Shapely (voted_has Kept opened_kept import_keeps adding_keeps) r s kept n bs rest k e
   votes_through Left e =
       let l = left_leaves voted r bs (sym (ap (λ (x : Run Voting). x.end) e)) in
       absurd (voted_goes _ l.mark _ l.is_left)

@@ -8,8 +8,6 @@ use Rattle.voter_set.specs.declared.Answer.{Answer}
 use Rattle.voter_set.specs.declared.Answer.TheVariants.{Made, Refused}
 use Rattle.voter_set.specs.Voters.{new}
 use Rattle.blocks.specs.declared.BlockTable.{BlockTable}
-use Rattle.blocks.specs.declared.Place.{Place}
-use Rattle.blocks.specs.declared.Place.TheVariants.{At, Nothing}
 use Rattle.blocks.specs.Add.{place_of, on_place}
 use Rattle.block_table.specs.Add.{opened}
 use Rattle.marks.specs.declared.Mark.{Mark}
@@ -27,6 +25,8 @@ use Rattle.turns.specs.Turns as turns
 use Rattle.turns.specs.Turns.{pairing, growing, voting, seated, rooted, opened_round, based, took}
 use Rattle.journal.specs.declared.Journal.{Journal}
 use Rattle.journal.specs.Journal.{laid, by_value, run_from}
+use Rattle.std.specs.Prelude.{Option, Some, None}
+use Rattle.refusals.specs.declared.Refusal.TheVariants.{UnknownBase}
 
 -- a run that ends at once, and one that goes on
 pub from_ended : (j t : turns.Journal) (n : ℕ) (bs rest : List ℕ) (e : End) → ran took j bs ≡ ended t n rest e → run_from j bs ≡ ended (laid t) n rest e
@@ -41,17 +41,17 @@ module _ (v : VoterSet) (t : BlockTable) (part : List ℕ) (whole : read part �
   fs : List ℕ
   fs = fields Op part
 
-  at_op : (o : Place) → place_of t.ids t.count (word (fields Op part) 8) ≡ o
-      → took (growing v t) Op (fields Op part) ≡ on_place o (λ b. goes (voting (opened_round (long (fields Op part) 0) v t b))) (stops 10)
+  at_op : (o : Option ℕ) → place_of t.ids t.count (word (fields Op part) 8) ≡ o
+      → took (growing v t) Op (fields Op part) ≡ on_place o (λ b. goes (voting (opened_round (long (fields Op part) 0) v t b))) (stops UnknownBase)
   unfolding took grown based
-  at_op o e = ap (λ (p : Place). on_place p (λ b. goes (voting (opened_round (long (fields Op part) 0) v t b))) (stops 10)) e
+  at_op o e = ap (λ (p : Option ℕ). on_place p (λ b. goes (voting (opened_round (long (fields Op part) 0) v t b))) (stops UnknownBase)) e
 
-  pub open_refused : place_of t.ids t.count (word (fields Op part) 8) ≡ Nothing → run_from (growing v t) part ≡ ended (laid (growing v t)) 0 part (end.Refused 10)
-  open_refused e = from_ended (growing v t) (growing v t) 0 part part (end.Refused 10) (ran_stops took (growing v t) part Op 10 whole (at_op Nothing e))
+  pub open_refused : place_of t.ids t.count (word (fields Op part) 8) ≡ None → run_from (growing v t) part ≡ ended (laid (growing v t)) 0 part (end.Refused UnknownBase)
+  open_refused e = from_ended (growing v t) (growing v t) 0 part part (end.Refused UnknownBase) (ran_stops took (growing v t) part Op 10 whole (at_op None e))
 
-  pub open_goes : (b : ℕ) → place_of t.ids t.count (word (fields Op part) 8) ≡ At b
+  pub open_goes : (b : ℕ) → place_of t.ids t.count (word (fields Op part) 8) ≡ Some b
       → run_from (growing v t) part ≡ counted 1 (run_from (voting (opened_round (long (fields Op part) 0) v t b)) (after Op part))
-  open_goes b e = from_counted (growing v t) _ 1 part (after Op part) (ran_goes took (growing v t) _ part Op whole (at_op (At b) e))
+  open_goes b e = from_counted (growing v t) _ 1 part (after Op part) (ran_goes took (growing v t) _ part Op whole (at_op (Some b) e))
 
 module _ (p : Pairs) (part : List ℕ) (whole : read part ≡ is.Whole Rt) where
   at_rt : (a : Answer) → (new (take p.count p.ids) (take p.count p.weights)).answer ≡ a

@@ -1,12 +1,10 @@
 -- A journal's state by value. Document 01, "The journal" and "Shape rules": what is handed in is tested; what is not yet told is blank.
-use Rattle.std.specs.Prelude.{Bool, true, false, ◌&&◌, List, ◌≡◌, ℕ, ◌+◌, ◌≤◌, leb, length, drop}
+use Rattle.std.specs.Prelude.{Bool, true, false, ◌&&◌, List, ◌≡◌, ℕ, ◌+◌, ◌≤◌, leb, length, drop, Option, Some, None}
 use Rattle.sizes.specs.Sizes.{PAIRS}
 use Rattle.voter_set.specs.Good.{good}
 use Rattle.block_shape.specs.Shape.{tabled}
 use Rattle.graph_rows.specs.Rows.{rows_of}
 use Rattle.runs.specs.Run.{Run, ran}
-use Rattle.round.specs.declared.Index.{Index}
-use Rattle.round.specs.declared.Index.TheVariants as index
 use Rattle.round.specs.declared.History.{History}
 use Rattle.round.specs.declared.Round.{Round}
 use Rattle.round.specs.Shape.{frame, held, shaped}
@@ -21,7 +19,7 @@ use Rattle.journal.specs.declared.Progress.{Progress}
 
 -- no call of a journal sets an index
 unfoldable pub round_of : Voting → Round
-round_of v = made v.frame v.held (rows_of v.held.graph.rows) index.Nothing index.Nothing
+round_of v = made v.frame v.held (rows_of v.held.graph.rows) None None
 
 -- the state of the definitions by value
 abbrev pub laid : turns.Journal → Journal
@@ -38,9 +36,9 @@ told_by Votes j = voting (record { frame = frame j.round; held = held j.round })
 unfoldable pub told : Journal → turns.Journal
 told j = told_by j.turn j
 
-abbrev pub unset : Index → Bool
-unset index.Nothing = true
-unset (index.At n) = false
+abbrev pub unset : Option ℕ → Bool
+unset None = true
+unset (Some n) = false
 
 -- the test of a state that is handed in
 abbrev pub stands_by : Turn → Journal → Bool

@@ -15,16 +15,17 @@ ghost use Rattle.turns.specs.Turns.{pairing, growing, voting, no_pairs};
 ghost use Rattle.turns.specs.Stands.{Stands};
 ghost use Rattle.journal.specs.Journal.{laid, told, unset, stands, run_of, Within, run_from};
 
-use blocks::{BlockTable, Place};
+use blocks::BlockTable;
 use context::Context;
 use importing::Standing;
 use marks::{End, Mark};
 use pairing::Pairs;
-use round::{History, Index, Round};
+use refusals::Refusal;
+use round::{History, Round};
 use sizes::PAIRS;
 use tracker::Votes;
 use vote_graph::VoteGraph;
-use voter_set::{Answer, NewVoterSet, VoterSet};
+use voter_set::VoterSet;
 
 // Which records may come.
 #[derive(Clone, Copy)]
@@ -207,8 +208,8 @@ fn from_votes(round: Round, bytes: &[u8]) -> Progress
         history: History {
             entries,
             count: after.count,
-            prevoted: Index::Nothing,
-            precommitted: Index::Nothing,
+            prevoted: None,
+            precommitted: None,
         },
         heard: heard_after,
         answers: answers_after,
@@ -234,12 +235,12 @@ fn open(voters: VoterSet, table: BlockTable, part: &[u8]) -> Progress
     let fields = marks::fields(part, Mark::Op);
     let number = marks::long(fields, 0);
     let base = marks::word(fields, 8);
-    let Place::At(place) = blocks::find(&table.ids, table.count, base) else {
+    let Some(place) = blocks::find(&table.ids, table.count, base) else {
         return Progress {
             journal: with_blocks(voters, table),
             count: 0,
             at: 0,
-            end: End::Refused(10),
+            end: End::Refused(Refusal::UnknownBase),
         };
     };
     let opened = round::opened(number, voters, table, place);
@@ -271,17 +272,17 @@ fn from_blocks(voters: VoterSet, table: BlockTable, bytes: &[u8]) -> Progress
             at,
             end: End::Cut,
         },
-        End::Refused(number) => Progress {
+        End::Refused(refusal) => Progress {
             journal: with_blocks(voters, grown),
             count: ran.count,
             at,
-            end: End::Refused(number),
+            end: End::Refused(refusal),
         },
     }
 }
 
 // The voter set of the pairs so far.
-fn make(ids: [u32; PAIRS], weights: [u64; PAIRS], count: usize) -> NewVoterSet
+fn make(ids: [u32; PAIRS], weights: [u64; PAIRS], count: usize) -> Result<VoterSet, Refusal>
     requires { count ≤ PAIRS }
     ensures { result ≡ new (take count ids) (take count weights) }
 {
@@ -296,17 +297,14 @@ fn root(pairs: Pairs, part: &[u8]) -> Progress
     let fields = marks::fields(part, Mark::Rt);
     let ids = pairs.ids;
     let weights = pairs.weights;
-    let made = make(ids, weights, pairs.count);
-    let answer = made.answer;
-    let voters = made.voters;
-    match answer {
-        Answer::Refused(number) => Progress {
+    match make(ids, weights, pairs.count) {
+        Err(refusal) => Progress {
             journal: with_pairs(pairs),
             count: 0,
             at: 0,
-            end: End::Refused(number),
+            end: End::Refused(refusal),
         },
-        Answer::Made => {
+        Ok(voters) => {
             let table = block_table::new(marks::word(fields, 0), marks::word(fields, 4));
             later(1, 10, from_blocks(voters, table, &part[10..]))
         }
@@ -336,21 +334,21 @@ pub fn from_voters(pairs: Pairs, bytes: &[u8]) -> Progress
             at,
             end: End::Cut,
         },
-        End::Refused(number) => Progress {
+        End::Refused(refusal) => Progress {
             journal: with_pairs(paired),
             count: ran.count,
             at,
-            end: End::Refused(number),
+            end: End::Refused(refusal),
         },
     }
 }
 
-fn is_unset(index: Index) -> bool
+fn is_unset(index: Option<u64>) -> bool
     ensures { result ≡ unset index }
 {
     match index {
-        Index::Nothing => true,
-        Index::At(_) => false,
+        None => true,
+        Some(_) => false,
     }
 }
 

@@ -8,11 +8,7 @@ use lib.Dec.{T, eqb, eqb→eq}
 use Rattle.loops.proofs.Tests.{T_true}
 use Rattle.grandpa.specs.Tree.{below}
 use Rattle.voter_info.specs.declared.VoterInfo.{VoterInfo}
-use Rattle.voter_info.specs.declared.Lookup.{Lookup}
-use Rattle.voter_info.specs.declared.Lookup.TheVariants.{Voter, Outside}
 use Rattle.voter_info.specs.Info.{look_up}
-use Rattle.blocks.specs.declared.Place.{Place}
-use Rattle.blocks.specs.declared.Place.TheVariants as place
 use Rattle.blocks.specs.Add.{place_of, on_place}
 use Rattle.context.specs.declared.Phase.{Phase}
 use Rattle.context.specs.Votes.{bit}
@@ -27,10 +23,12 @@ use Rattle.judging.specs.declared.ImportResult.TheVariants as answer
 use Rattle.judging.specs.declared.Verdict.{Verdict}
 use Rattle.judging.specs.declared.Verdict.TheVariants.{Nothing, First, Second}
 use Rattle.judging.specs.Judge.{refused, judge_first, by_rule, on_voter, judge}
+use Rattle.std.specs.Prelude.{Option, Some, None}
+use Rattle.refusals.specs.declared.Refusal.TheVariants.{OffTheBase, UnknownTarget, WrongNumber}
 
 -- a first vote for the block at b: its target is there, by its number, at or below the base
 pub record Aimed (ids numbers parents : List ℕ) (blocks base : ℕ) (p : Pair) (b : ℕ) : Type 0 where
-  pub placed : place_of ids blocks p.target ≡ place.At b
+  pub placed : place_of ids blocks p.target ≡ Some b
   pub numbered : col numbers b ≡ p.number
   pub inside : T (below (col parents) base b)
 
@@ -39,8 +37,8 @@ pub first_aimed : (ids numbers parents : List ℕ) (blocks base : ℕ) (v w : Vo
 unfolding judge_first
 first_aimed ids numbers parents blocks base v w p b e = go (place_of ids blocks p.target) refl e
   where
-    here : (k : ℕ) → place_of ids blocks p.target ≡ place.At k → (x : Bool) → eqb (col numbers k) p.number ≡ x
-        → (y : Bool) → below (col parents) base k ≡ y → cond x (cond y (First v k) (refused 13)) (refused 12) ≡ First w b
+    here : (k : ℕ) → place_of ids blocks p.target ≡ Some k → (x : Bool) → eqb (col numbers k) p.number ≡ x
+        → (y : Bool) → below (col parents) base k ≡ y → cond x (cond y (First v k) (refused OffTheBase)) (refused WrongNumber) ≡ First w b
         → (v ≡ w) × Aimed ids numbers parents blocks base p b
     here k q true s true t r =
         let i : ◌≡◌ {A = VoterInfo} v w = cc in
@@ -52,11 +50,11 @@ first_aimed ids numbers parents blocks base v w p b e = go (place_of ids blocks 
     here k q true s false t r = absurd (let z : ◌≡◌ {A = ℕ} 0 1 = cc in omega arith)
     here k q false s y t r = absurd (let z : ◌≡◌ {A = ℕ} 0 1 = cc in omega arith)
 
-    go : (l : Place) → place_of ids blocks p.target ≡ l
-        → on_place l (λ k. cond (eqb (col numbers k) p.number) (cond (below (col parents) base k) (First v k) (refused 13)) (refused 12)) (refused 11) ≡ First w b
+    go : (l : Option ℕ) → place_of ids blocks p.target ≡ l
+        → on_place l (λ k. cond (eqb (col numbers k) p.number) (cond (below (col parents) base k) (First v k) (refused OffTheBase)) (refused WrongNumber)) (refused UnknownTarget) ≡ First w b
         → (v ≡ w) × Aimed ids numbers parents blocks base p b
-    go (place.At k) q r = here k q (eqb (col numbers k) p.number) refl (below (col parents) base k) refl r
-    go place.Nothing q r = absurd (let z : ◌≡◌ {A = ℕ} 0 1 = cc in omega arith)
+    go (Some k) q r = here k q (eqb (col numbers k) p.number) refl (below (col parents) base k) refl r
+    go None q r = absurd (let z : ◌≡◌ {A = ℕ} 0 1 = cc in omega arith)
 
 -- a verdict on a first vote never speaks of a second
 pub first_only : (ids numbers parents : List ℕ) (blocks base : ℕ) (v w : VoterInfo) (p a : Pair)
@@ -64,16 +62,16 @@ pub first_only : (ids numbers parents : List ℕ) (blocks base : ℕ) (v w : Vot
 unfolding judge_first
 first_only ids numbers parents blocks base v w p a e = go (place_of ids blocks p.target) e
   where
-    here : (k : ℕ) (x y : Bool) → cond x (cond y (First v k) (refused 13)) (refused 12) ≡ Second w a → ⊥
+    here : (k : ℕ) (x y : Bool) → cond x (cond y (First v k) (refused OffTheBase)) (refused WrongNumber) ≡ Second w a → ⊥
     here k true true r = absurd (let z : ◌≡◌ {A = ℕ} 0 1 = cc in omega arith)
     here k true false r = absurd (let z : ◌≡◌ {A = ℕ} 0 1 = cc in omega arith)
     here k false y r = absurd (let z : ◌≡◌ {A = ℕ} 0 1 = cc in omega arith)
 
-    go : (l : Place)
-        → on_place l (λ k. cond (eqb (col numbers k) p.number) (cond (below (col parents) base k) (First v k) (refused 13)) (refused 12)) (refused 11) ≡ Second w a
+    go : (l : Option ℕ)
+        → on_place l (λ k. cond (eqb (col numbers k) p.number) (cond (below (col parents) base k) (First v k) (refused OffTheBase)) (refused WrongNumber)) (refused UnknownTarget) ≡ Second w a
         → ⊥
-    go (place.At k) r = here k (eqb (col numbers k) p.number) (below (col parents) base k) r
-    go place.Nothing r = absurd (let z : ◌≡◌ {A = ℕ} 0 1 = cc in omega arith)
+    go (Some k) r = here k (eqb (col numbers k) p.number) (below (col parents) base k) r
+    go None r = absurd (let z : ◌≡◌ {A = ℕ} 0 1 = cc in omega arith)
 
 -- how often a voter spoke, by the pairs that are recorded
 pub spoke_not : (votes : Votes) (ids numbers : List ℕ) (j : ℕ) → recorded votes ids numbers j ≡ Silent → col votes.counts j ≡ 0
@@ -111,19 +109,19 @@ module _ (voters weights : List ℕ) (size : ℕ) (ids numbers parents : List �
 
   -- rule 2: of a voter that was silent
   pub judged_first : (v : VoterInfo) (b : ℕ) → judged ≡ First v b
-      → (look_up voters weights size signer ≡ Voter v) × (col votes.counts (bit phase v.position) ≡ 0) × Aimed ids numbers parents blocks base p b
+      → (look_up voters weights size signer ≡ Some v) × (col votes.counts (bit phase v.position) ≡ 0) × Aimed ids numbers parents blocks base p b
   unfolding judge
   judged_first v b e = go (look_up voters weights size signer) refl e
     where
       Said : Type 0
-      Said = (look_up voters weights size signer ≡ Voter v) × (col votes.counts (bit phase v.position) ≡ 0) × Aimed ids numbers parents blocks base p b
+      Said = (look_up voters weights size signer ≡ Some v) × (col votes.counts (bit phase v.position) ≡ 0) × Aimed ids numbers parents blocks base p b
 
-      rule : (w : VoterInfo) → look_up voters weights size signer ≡ Voter w → (m : VoteMultiplicity) → held w ≡ m
+      rule : (w : VoterInfo) → look_up voters weights size signer ≡ Some w → (m : VoteMultiplicity) → held w ≡ m
           → by_rule (add_vote m p) (judge_first ids numbers parents blocks base w p) w ≡ First v b → Said
       rule w q Silent s r =
           let f = first_aimed ids numbers parents blocks base w v p b r in
           let i : w ≡ v = f.0 in
-          (q ∙ ap Voter i, subst (λ (z : VoterInfo). col votes.counts (bit phase z.position) ≡ 0) i (spoke_not votes ids numbers _ s), f.1)
+          (q ∙ ap Some i, subst (λ (z : VoterInfo). col votes.counts (bit phase z.position) ≡ 0) i (spoke_not votes ids numbers _ s), f.1)
       rule w q (Single a) s r = twice (same a p) r
         where
           twice : (x : Bool) → by_rule (cond x added.Duplicated (added.Equivocated a)) (judge_first ids numbers parents blocks base w p) w ≡ First v b → Said
@@ -136,22 +134,22 @@ module _ (voters weights : List ℕ) (size : ℕ) (ids numbers parents : List �
           thrice false true t = absurd (let z : ◌≡◌ {A = ℕ} 0 1 = cc in omega arith)
           thrice false false t = absurd (let z : ◌≡◌ {A = ℕ} 0 1 = cc in omega arith)
 
-      go : (l : Lookup) → look_up voters weights size signer ≡ l → on_voter l by ≡ First v b → Said
-      go (Voter w) q r = rule w q (held w) refl r
-      go Outside q r = absurd (let z : ◌≡◌ {A = ℕ} 0 1 = cc in omega arith)
+      go : (l : Option VoterInfo) → look_up voters weights size signer ≡ l → on_voter l by ≡ First v b → Said
+      go (Some w) q r = rule w q (held w) refl r
+      go None q r = absurd (let z : ◌≡◌ {A = ℕ} 0 1 = cc in omega arith)
 
   -- rule 4: of a voter with one vote, which is told beside
   pub judged_second : (v : VoterInfo) (a : Pair) → judged ≡ Second v a
-      → (look_up voters weights size signer ≡ Voter v) × (col votes.counts (bit phase v.position) ≡ 1)
+      → (look_up voters weights size signer ≡ Some v) × (col votes.counts (bit phase v.position) ≡ 1)
       × (a ≡ first_pair votes.first_block votes.first_signature ids numbers (bit phase v.position))
   unfolding judge
   judged_second v a e = go (look_up voters weights size signer) refl e
     where
       Said : Type 0
-      Said = (look_up voters weights size signer ≡ Voter v) × (col votes.counts (bit phase v.position) ≡ 1)
+      Said = (look_up voters weights size signer ≡ Some v) × (col votes.counts (bit phase v.position) ≡ 1)
           × (a ≡ first_pair votes.first_block votes.first_signature ids numbers (bit phase v.position))
 
-      rule : (w : VoterInfo) → look_up voters weights size signer ≡ Voter w → (m : VoteMultiplicity) → held w ≡ m
+      rule : (w : VoterInfo) → look_up voters weights size signer ≡ Some w → (m : VoteMultiplicity) → held w ≡ m
           → by_rule (add_vote m p) (judge_first ids numbers parents blocks base w p) w ≡ Second v a → Said
       rule w q Silent s r = absurd (first_only ids numbers parents blocks base w v p a r)
       rule w q (Single c) s r = twice (same c p) r
@@ -162,7 +160,7 @@ module _ (voters weights : List ℕ) (size : ℕ) (ids numbers parents : List �
               let i : ◌≡◌ {A = VoterInfo} w v = cc in
               let j : ◌≡◌ {A = Pair} c a = cc in
               let o = spoke_once votes ids numbers _ c s in (
-                q ∙ ap Voter i,
+                q ∙ ap Some i,
                 subst (λ (z : VoterInfo). col votes.counts (bit phase z.position) ≡ 1) i o.0,
                 sym j ∙ o.1 ∙ ap (λ (z : VoterInfo). first_pair votes.first_block votes.first_signature ids numbers (bit phase z.position)) i,
               )
@@ -173,6 +171,6 @@ module _ (voters weights : List ℕ) (size : ℕ) (ids numbers parents : List �
           thrice false true t = absurd (let z : ◌≡◌ {A = ℕ} 0 1 = cc in omega arith)
           thrice false false t = absurd (let z : ◌≡◌ {A = ℕ} 0 1 = cc in omega arith)
 
-      go : (l : Lookup) → look_up voters weights size signer ≡ l → on_voter l by ≡ Second v a → Said
-      go (Voter w) q r = rule w q (held w) refl r
-      go Outside q r = absurd (let z : ◌≡◌ {A = ℕ} 0 1 = cc in omega arith)
+      go : (l : Option VoterInfo) → look_up voters weights size signer ≡ l → on_voter l by ≡ Second v a → Said
+      go (Some w) q r = rule w q (held w) refl r
+      go None q r = absurd (let z : ◌≡◌ {A = ℕ} 0 1 = cc in omega arith)

@@ -10,12 +10,12 @@ ghost use Rattle.nodes.specs.Nodes.{col, Falls};
 ghost use Rattle.tracker.specs.Votes.{votes_at};
 ghost use Rattle.judging.specs.Judge.{Inside, judge_first, judge};
 
-use blocks::Place;
 use climbs::wide;
 use context::Phase;
+use refusals::Refusal;
 use sizes::{BLOCKS, VOTERS, VOTES};
 use tracker::{AddVoteResult, Pair};
-use voter_info::{Lookup, VoterInfo};
+use voter_info::VoterInfo;
 
 // Both pairs of an equivocator in arrival order.
 #[derive(Clone, Copy)]
@@ -34,14 +34,13 @@ pub enum ImportResult {
     Duplicated,
     Equivocated(Equivocation),
     Ignored,
-    Refused(u8),
 }
 
 // What is to be done with a vote: nothing, with the answer; a first vote by a voter for the block at a place; the second of a
 // voter, with the first beside it.
 #[derive(Clone, Copy)]
 pub enum Verdict {
-    Nothing(ImportResult),
+    Nothing(Result<ImportResult, Refusal>),
     First(VoterInfo, u8),
     Second(VoterInfo, Pair),
 }
@@ -76,14 +75,14 @@ pub fn judge_first<'a>(
     requires { (Falls parents.now) × (blocks ≤ BLOCKS) × Inside parents.now base used.now }
     ensures { result ≡ judge_first ids.now numbers.now parents.now blocks base info pair }
 {
-    let Place::At(block) = blocks::find(ids, blocks, pair.target) else {
-        return Verdict::Nothing(ImportResult::Refused(11));
+    let Some(block) = blocks::find(ids, blocks, pair.target) else {
+        return Verdict::Nothing(Err(Refusal::UnknownTarget));
     };
     if numbers[wide(block)] != pair.number {
-        return Verdict::Nothing(ImportResult::Refused(12));
+        return Verdict::Nothing(Err(Refusal::WrongNumber));
     }
     if !is_inside(parents, used, base, block) {
-        return Verdict::Nothing(ImportResult::Refused(13));
+        return Verdict::Nothing(Err(Refusal::OffTheBase));
     }
     Verdict::First(info, block)
 }
@@ -113,8 +112,8 @@ pub fn judge<'a>(
     ensures { result ≡ judge voters.now weights.now size ids.now numbers.now parents.now blocks base
         (votes_at before counts first_block first_signature second_target second_number second_signature) phase signer pair }
 {
-    let Lookup::Voter(info) = voter_info::look_up(voters, weights, size, signer) else {
-        return Verdict::Nothing(ImportResult::Outside);
+    let Some(info) = voter_info::look_up(voters, weights, size, signer) else {
+        return Verdict::Nothing(Ok(ImportResult::Outside));
     };
     let at = context::index(info.position, phase);
     let recorded = tracker::recorded(
@@ -130,8 +129,8 @@ pub fn judge<'a>(
     );
     match tracker::add_vote(recorded, pair) {
         AddVoteResult::Single => judge_first(ids, numbers, parents, blocks, base, used, info, pair),
-        AddVoteResult::Duplicated => Verdict::Nothing(ImportResult::Duplicated),
+        AddVoteResult::Duplicated => Verdict::Nothing(Ok(ImportResult::Duplicated)),
         AddVoteResult::Equivocated(first) => Verdict::Second(info, first),
-        AddVoteResult::Ignored => Verdict::Nothing(ImportResult::Ignored),
+        AddVoteResult::Ignored => Verdict::Nothing(Ok(ImportResult::Ignored)),
     }
 }

@@ -5,12 +5,12 @@ use mathlib.Core.List.{List, [], ◌∷◌, ◌++◌}
 use mathlib.Core.Path.{◌≡◌, refl}
 use Prim.Native.Nat.{ℕ}
 use Rattle.context.specs.declared.Phase.TheVariants.{Prevote, Precommit}
-use Rattle.nodes.specs.declared.Found.TheVariants.{At, Nothing}
 use Rattle.answers.specs.declared.Answers.{Answers}
 use Rattle.answers.specs.declared.Heard.{Heard}
 use Rattle.round.specs.declared.Round.{Round}
 use Rattle.round.specs.Ask.{heard_in}
 use Rattle.lines.specs.Lines.{text, digits, decimal, named, line, heard_line, block_line, completable_line, answer_lines, refused, no_round, round_lines}
+use Rattle.std.specs.Prelude.{Some, None}
 
 -- round 7, voters 1 to 4 of weight 1, blocks 10 to 13 at places 0 to 3; what was heard and is answered may vary, and the voters heard
 -- are counted in the graph that is given
@@ -34,7 +34,7 @@ four r heard answers =
 j : Round → Round
 j r =
     four r (record { prevote = 4; precommit = 3 })
-    (record { prevote = At 2; precommit = Nothing; finalized = At 1; estimate = At 2; completable = true })
+    (record { prevote = Some 2; precommit = None; finalized = Some 1; estimate = Some 2; completable = true })
 
 case_j : (r : Round) → heard_in r.graph Prevote ≡ 4 → heard_in r.graph Precommit ≡ 3
     → round_lines (j r) 0
@@ -52,7 +52,7 @@ case_j r prevoters precommitters = rw (prevoters, precommitters)
 opened : (r : Round) → heard_in r.graph Prevote ≡ 0 → heard_in r.graph Precommit ≡ 0
     → round_lines
     (four r (record { prevote = 0; precommit = 0 })
-    (record { prevote = Nothing; precommit = Nothing; finalized = Nothing; estimate = Nothing; completable = false }))
+    (record { prevote = None; precommit = None; finalized = None; estimate = None; completable = false }))
     21
     ≡ text "round 7\n"
     ++ text "prevote 0 of 4 need 3 voters 0\n"

@@ -1,16 +1,16 @@
 -- What a replay prints. Document 01, "The journal": it stops at the first refusal and prints only `refused N at K`; an end before Op
 -- prints `no round`, then the tail line; else there are eight lines, which give heard weight, total, T and voters heard; block and
 -- number, or `none`; `yes` or `no`; bytes after the last whole record.
-use Rattle.std.specs.Prelude.{Bool, cond, List, [], ◌∷◌, ◌++◌, ℕ, zero, suc, ◌+◌, ◌-◌, ◌*◌, ◌/◌, ◌%◌, ltb}
+use Rattle.std.specs.Prelude.{Bool, cond, List, [], ◌∷◌, ◌++◌, ℕ, zero, suc, ◌+◌, ◌-◌, ◌*◌, ◌/◌, ◌%◌, ltb, Option, Some, None}
 use Prim.Native.Char.{code}
 use Prim.Native.String.{String, [] as none, ◌∷◌ as before}
 use Rattle.answers.specs.declared.Answers.{Answers}
 use Rattle.context.specs.declared.Phase.TheVariants.{Prevote, Precommit}
 use Rattle.round.specs.declared.Round.{Round}
-use Rattle.round.specs.declared.Told.{Told}
-use Rattle.round.specs.declared.Told.TheVariants.{Block, Nothing, Refused}
 use Rattle.round.specs.Ask.{heard_in}
 use Rattle.round.specs.Calls.{block_of}
+use Rattle.refusals.specs.declared.Refusal.{Refusal}
+use Rattle.refusals.specs.Number.{number}
 
 -- a text's characters as numbers: its bytes, since all of them are ASCII here
 abbrev pub text : String → List ℕ
@@ -44,13 +44,12 @@ heard_line word weight total threshold voters =
     named word weight ++ named (text " of ") total ++ named (text " need ") threshold ++ named (text " voters ") voters ++ text "\n"
 
 -- ` 12 2`, ` none`; `block_of` refuses nothing
-abbrev pub block_end : Told → List ℕ
-block_end (Block id number) = named (text " ") id ++ named (text " ") number ++ text "\n"
-block_end Nothing = text " none\n"
-block_end (Refused n) = text " none\n"
+abbrev pub block_end : Option (ℕ × ℕ) → List ℕ
+block_end (Some (id, number)) = named (text " ") id ++ named (text " ") number ++ text "\n"
+block_end None = text " none\n"
 
 -- `ghost 12 2`
-unfoldable pub block_line : List ℕ → Told → List ℕ
+unfoldable pub block_line : List ℕ → Option (ℕ × ℕ) → List ℕ
 block_line word told = word ++ block_end told
 
 unfoldable pub completable_line : Bool → List ℕ
@@ -64,8 +63,8 @@ answer_lines ids numbers a =
     ++ completable_line a.completable
 
 -- the whole texts
-unfoldable pub refused : ℕ → ℕ → List ℕ
-refused number k = named (text "refused ") number ++ named (text " at ") k ++ text "\n"
+unfoldable pub refused : Refusal → ℕ → List ℕ
+refused refusal k = named (text "refused ") (number refusal) ++ named (text " at ") k ++ text "\n"
 
 unfoldable pub no_round : ℕ → List ℕ
 no_round tail = text "no round\n" ++ line (text "tail ") tail

@@ -8,7 +8,8 @@ ghost use Rattle.lines.specs.Put.{Put};
 
 use answers::Answers;
 use context::Phase;
-use round::{Round, Told};
+use refusals::Refusal;
+use round::Round;
 
 // Bytes at a place of a buffer.
 fn put_in(out: &mut [u8], at: usize, s: &[u8]) -> usize
@@ -73,22 +74,21 @@ pub fn put_heard(
 }
 
 // A block and its number, or none.
-fn put_told(out: &mut [u8; 512], at: usize, told: Told) -> usize
+fn put_told(out: &mut [u8; 512], at: usize, told: Option<(u32, u32)>) -> usize
     requires { at + 43 ≤ 512 }
     ensures { (Put out.old at (block_end told) out.new result) × (result ≤ at + 43) }
 {
     match told {
-        Told::Block(id, number) => {
+        Some((id, number)) => {
             let a = put_named(out, at, b" ", id as u64);
             let b = put_named(out, a, b" ", number as u64);
             put(out, b, b"\n")
         }
-        Told::Nothing => put(out, at, b" none\n"),
-        Told::Refused(_) => put(out, at, b" none\n"),
+        None => put(out, at, b" none\n"),
     }
 }
 
-pub fn put_block(out: &mut [u8; 512], at: usize, word: &[u8], told: Told) -> usize
+pub fn put_block(out: &mut [u8; 512], at: usize, word: &[u8], told: Option<(u32, u32)>) -> usize
     requires { at + length word.now + 43 ≤ 512 }
     ensures { (Put out.old at (block_line word.now told) out.new result) × (result ≤ at + length word.now + 43) }
 {
@@ -129,10 +129,10 @@ fn put_answers<'a>(
 }
 
 // A refusal's number, and the record's, counted from 1.
-pub fn put_refused(out: &mut [u8; 512], number: u8, record: u64) -> usize
-    ensures { (out.new ≡ refused number «record» ++ drop (length (refused number «record»)) out.old) × (result ≡ length (refused number «record»)) }
+pub fn put_refused(out: &mut [u8; 512], refusal: Refusal, record: u64) -> usize
+    ensures { (out.new ≡ refused refusal «record» ++ drop (length (refused refusal «record»)) out.old) × (result ≡ length (refused refusal «record»)) }
 {
-    let a = put_named(out, 0, b"refused ", number as u64);
+    let a = put_named(out, 0, b"refused ", refusal.number() as u64);
     let b = put_named(out, a, b" at ", record);
     put(out, b, b"\n")
 }

@@ -18,9 +18,10 @@ use Rattle.tracker.specs.declared.Votes.{Votes}
 use Rattle.tracker.specs.Recorded.{recorded}
 use Rattle.records.specs.Bytes.{vote_bytes}
 use Rattle.listing.specs.declared.Wanted.TheVariants.{Of, Finalizing}
-use Rattle.listing.specs.declared.Written.TheVariants.{Bytes, Refused}
 use Rattle.listing.specs.Entries.{by_voter, wants}
 use Rattle.listing.specs.Written.{pair_of, record_of, in_a_row, Lent, written}
+use Rattle.std.specs.Prelude.{Ok, Err}
+use Rattle.refusals.specs.declared.Refusal.TheVariants.{ShortBuffer}
 
 voters : List ℕ
 voters = 1 ∷ 2 ∷ 3 ∷ 4 ∷ []
@@ -83,14 +84,14 @@ lists = (refl, refl, refl, refl, refl)
 -- three Pc records, and what stood after them; one byte less is 14
 case_j : (written (record_of j voters ids numbers) (first 0 ∷ first 1 ∷ first 2 ∷ []) (replicate 68 255)
     ≡ record {
-      answer = Bytes 66;
+      answer = Ok 66;
       bytes =
           80 ∷ 99 ∷ 1 ∷ 0 ∷ 0 ∷ 0 ∷ 12 ∷ 0 ∷ 0 ∷ 0 ∷ 2 ∷ 0 ∷ 0 ∷ 0 ∷ 0 ∷ 0 ∷ 0 ∷ 0 ∷ 0 ∷ 0 ∷ 0 ∷ 0 ∷
           80 ∷ 99 ∷ 2 ∷ 0 ∷ 0 ∷ 0 ∷ 12 ∷ 0 ∷ 0 ∷ 0 ∷ 2 ∷ 0 ∷ 0 ∷ 0 ∷ 0 ∷ 0 ∷ 0 ∷ 0 ∷ 0 ∷ 0 ∷ 0 ∷ 0 ∷
           80 ∷ 99 ∷ 3 ∷ 0 ∷ 0 ∷ 0 ∷ 11 ∷ 0 ∷ 0 ∷ 0 ∷ 1 ∷ 0 ∷ 0 ∷ 0 ∷ 0 ∷ 0 ∷ 0 ∷ 0 ∷ 0 ∷ 0 ∷ 0 ∷ 0 ∷
           255 ∷ 255 ∷ [];
     })
-    × (written (record_of j voters ids numbers) (first 0 ∷ first 1 ∷ first 2 ∷ []) (replicate 65 255) ≡ record { answer = Refused 14; bytes = replicate 65 255 })
+    × (written (record_of j voters ids numbers) (first 0 ∷ first 1 ∷ first 2 ∷ []) (replicate 65 255) ≡ record { answer = Err ShortBuffer; bytes = replicate 65 255 })
 unfolding written in_a_row record_of pair_of recorded vote_bytes voters ids numbers voted none first_block spoken j first
     bit phase_at index index_place index_phase entry entry_index entry_pair layout.bit layout.place_of layout.phase_of RUN
 case_j = (refl, refl)
@@ -98,7 +99,7 @@ case_j = (refl, refl)
 -- the equivocator's two, in arrival order
 case_j_twice : written (record_of twice voters ids numbers) (first 2 ∷ second 2 ∷ []) (replicate 44 0)
     ≡ record {
-      answer = Bytes 44;
+      answer = Ok 44;
       bytes =
           80 ∷ 99 ∷ 3 ∷ 0 ∷ 0 ∷ 0 ∷ 11 ∷ 0 ∷ 0 ∷ 0 ∷ 1 ∷ 0 ∷ 0 ∷ 0 ∷ 0 ∷ 0 ∷ 0 ∷ 0 ∷ 0 ∷ 0 ∷ 0 ∷ 0 ∷
           80 ∷ 99 ∷ 3 ∷ 0 ∷ 0 ∷ 0 ∷ 13 ∷ 0 ∷ 0 ∷ 0 ∷ 2 ∷ 0 ∷ 0 ∷ 0 ∷ 0 ∷ 0 ∷ 0 ∷ 0 ∷ 0 ∷ 0 ∷ 0 ∷ 0 ∷ [];

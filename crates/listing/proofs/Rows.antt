@@ -18,8 +18,9 @@ use Rattle.tracker.specs.declared.Votes.{Votes}
 use Rattle.tracker.specs.declared.Pair.{Pair}
 use Rattle.records.specs.Bytes.{vote_bytes}
 use Rattle.records.proofs.Bytes.{length_vote}
-use Rattle.listing.specs.declared.Written.TheVariants.{Bytes, Refused}
 use Rattle.listing.specs.Written.{phase_of, voter_of, pair_of, record_of, in_a_row, Lent, written}
+use Rattle.std.specs.Prelude.{Ok, Err}
+use Rattle.refusals.specs.declared.Refusal.TheVariants.{ShortBuffer}
 
 module _ (f : ℕ → List ℕ) where
   pub row_append : (a b : List ℕ) → in_a_row f (a ++ b) ≡ in_a_row f a ++ in_a_row f b
@@ -105,13 +106,13 @@ filled_next f sizes xs old k out used h room part e =
         (from_part out (f (get_or xs k 0)) used ∙ middle ∙ ap (λ (l : List ℕ). l ++ drop (used + 22) old) (sym (row_next f k xs)))
 
 pub filled_end : (f : ℕ → List ℕ) (xs old : List ℕ) (n k : ℕ) (out : List ℕ) (used : ℕ) → Filled f xs old k out used → k ≡ n
-    → 22 * n ≤ length old → record { answer = Bytes used; bytes = out } ≡ written f (front n xs) old
+    → 22 * n ≤ length old → record { answer = Ok used; bytes = out } ≡ written f (front n xs) old
 unfolding written
 filled_end f xs old n k out used h e room =
     rw (length_front n xs, le-ltb _ _ room, h.bytes_are, h.used_is, e)
 
 pub filled_not : (f : ℕ → List ℕ) (xs old : List ℕ) (n : ℕ) → length old < 22 * n
-    → record { answer = Refused 14; bytes = old } ≡ written f (front n xs) old
+    → record { answer = Err ShortBuffer; bytes = old } ≡ written f (front n xs) old
 unfolding written
 filled_not f xs old n short = rw (length_front n xs, lt-ltb _ _ short)
 

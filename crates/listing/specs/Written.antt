@@ -1,7 +1,7 @@
 -- A list of entries as records in a lent buffer. Document 01, "The four answers": each record is written into the part of the
 -- buffer that remains; the bytes after the last stay. "Refusal numbers": 14, lent buffer too short for the whole list; a
 -- refusal leaves the buffer untouched.
-use Rattle.std.specs.Prelude.{Bool, cond, List, [], ◌∷◌, ◌++◌, ℕ, ◌*◌, eqb, ltb, length, drop}
+use Rattle.std.specs.Prelude.{Bool, cond, List, [], ◌∷◌, ◌++◌, ℕ, ◌*◌, eqb, ltb, length, drop, Result, Ok, Err}
 use Rattle.layouts.specs.Layout.{index_place, entry_index, entry_pair}
 use Rattle.context.specs.declared.Phase.{Phase}
 use Rattle.context.specs.Votes.{phase_at}
@@ -12,8 +12,8 @@ use Rattle.tracker.specs.declared.VoteMultiplicity.{VoteMultiplicity}
 use Rattle.tracker.specs.declared.VoteMultiplicity.TheVariants.{Silent, Single, Equivocated}
 use Rattle.tracker.specs.Recorded.{recorded}
 use Rattle.records.specs.Bytes.{vote_bytes}
-use Rattle.listing.specs.declared.Written.{Written}
-use Rattle.listing.specs.declared.Written.TheVariants.{Bytes, Refused}
+use Rattle.refusals.specs.declared.Refusal.{Refusal}
+use Rattle.refusals.specs.declared.Refusal.TheVariants.{ShortBuffer}
 
 -- the phase of an entry, and the place of its voter
 abbrev pub phase_of : ℕ → Phase
@@ -41,11 +41,11 @@ in_a_row f (e ∷ es) = f e ++ in_a_row f es
 
 -- an answer, and the lent buffer with it
 pub record Lent : Type 0 where
-  pub answer : Written
+  pub answer : (Result ℕ Refusal)
   pub bytes : List ℕ
 
 unfoldable pub written : (ℕ → List ℕ) → List ℕ → List ℕ → Lent
 written f es out =
     cond (ltb (length out) (22 * length es))
-    (record { answer = Refused 14; bytes = out })
-    (record { answer = Bytes (22 * length es); bytes = in_a_row f es ++ drop (22 * length es) out })
+    (record { answer = Err ShortBuffer; bytes = out })
+    (record { answer = Ok (22 * length es); bytes = in_a_row f es ++ drop (22 * length es) out })

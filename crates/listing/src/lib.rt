@@ -13,6 +13,7 @@ ghost use Rattle.listing.specs.Written.{chosen, pair_of, record_of, Lent, writte
 
 use context::Phase;
 use entry_lists::Entries;
+use refusals::Refusal;
 use sizes::{BLOCKS, HISTORY, VOTERS, VOTES};
 use tracker::{Pair, VoteMultiplicity};
 
@@ -99,13 +100,6 @@ pub fn entries_of<'a>(
     Entries { entries, count: n }
 }
 
-// How many bytes were written, or a refusal's number.
-#[derive(Clone, Copy)]
-pub enum Written {
-    Bytes(usize),
-    Refused(u8),
-}
-
 fn chosen(recorded: VoteMultiplicity, later: bool) -> Pair
     ensures { result ≡ chosen recorded later }
 {
@@ -168,14 +162,14 @@ pub fn write<'a>(
     ids: &'a [u32; BLOCKS],
     numbers: &'a [u32; BLOCKS],
     out: &mut [u8],
-) -> Written
+) -> Result<usize, Refusal>
     requires { (count ≤ HISTORY) × Fit entries.now count }
     ensures { ◌≡◌ {A = Lent} (record { answer = result; bytes = out.new })
         (written (record_of (votes_at before counts first_block first_signature second_target second_number second_signature) voters.now ids.now numbers.now)
         (front count entries.now) out.old) }
 {
     if out.len() < 22 * count {
-        return Written::Refused(14);
+        return Err(Refusal::ShortBuffer);
     }
     let mut used = 0;
     for k in 0..count {
@@ -197,5 +191,5 @@ pub fn write<'a>(
         records::put_vote(&mut out[used..], phase, voters[place], pair);
         used = used + 22;
     }
-    Written::Bytes(used)
+    Ok(used)
 }

@@ -5,14 +5,14 @@ use mathlib.Core.Path.{◌≡◌, refl}
 use Prim.Native.Nat.{ℕ, ◌+◌}
 use lib.ListN.{length, take}
 use Rattle.marks.specs.declared.Mark.TheVariants.{Vt, Rt, Bk, Op, Pv, Pc}
-use Rattle.marks.specs.declared.Named.TheVariants as name
 use Rattle.marks.specs.declared.Record.TheVariants as is
 use Rattle.marks.specs.Marks.{named, size, read, fields, after, word, long}
+use Rattle.std.specs.Prelude.{Some}
 
 -- what the six marks name, as the code's numbers
 pub six_marks :
-    (named 0x7456 ≡ name.Known Vt) × (named 0x7452 ≡ name.Known Rt) × (named 0x6b42 ≡ name.Known Bk)
-    × (named 0x704f ≡ name.Known Op) × (named 0x7650 ≡ name.Known Pv) × (named 0x6350 ≡ name.Known Pc)
+    (named 0x7456 ≡ Some Vt) × (named 0x7452 ≡ Some Rt) × (named 0x6b42 ≡ Some Bk)
+    × (named 0x704f ≡ Some Op) × (named 0x7650 ≡ Some Pv) × (named 0x6350 ≡ Some Pc)
 unfolding named
 six_marks = (refl, refl, refl, refl, refl, refl)
 

@@ -1,14 +1,13 @@
 -- The records of a journal. Document 01, "The journal": a record is a two-byte ASCII mark and fixed fields, little-endian; an unknown
 -- mark is judged at its two bytes, all else when the record is whole.
-use Rattle.std.specs.Prelude.{cond, List, ℕ, ◌+◌, ◌*◌, eqb, ltb, length, get_or, take, drop}
+use Rattle.std.specs.Prelude.{cond, List, ℕ, ◌+◌, ◌*◌, eqb, ltb, length, get_or, take, drop, Option, Some, None}
 use Rattle.marks.specs.declared.Mark.{Mark}
 use Rattle.marks.specs.declared.Mark.TheVariants.{Vt, Rt, Bk, Op, Pv, Pc}
-use Rattle.marks.specs.declared.Named.{Named}
-use Rattle.marks.specs.declared.Named.TheVariants as name
 use Rattle.marks.specs.declared.Record.{Record}
 use Rattle.marks.specs.declared.Record.TheVariants as is
 use Rattle.marks.specs.declared.End.{End}
 use Rattle.marks.specs.declared.End.TheVariants as end
+use Rattle.refusals.specs.declared.Refusal.TheVariants.{UnknownMark}
 
 -- a byte of a list, 0 past its end
 abbrev pub byte : List ℕ → ℕ → ℕ
@@ -18,13 +17,13 @@ byte bs k = get_or bs k 0
 abbrev pub letters : ℕ → ℕ → ℕ
 letters first second = first + 256 * second
 
-unfoldable pub named : ℕ → Named
+unfoldable pub named : ℕ → Option Mark
 named mark =
-    cond (eqb mark (letters 86 116)) (name.Known Vt)
-    (cond (eqb mark (letters 82 116)) (name.Known Rt)
-    (cond (eqb mark (letters 66 107)) (name.Known Bk)
-    (cond (eqb mark (letters 79 112)) (name.Known Op)
-    (cond (eqb mark (letters 80 118)) (name.Known Pv) (cond (eqb mark (letters 80 99)) (name.Known Pc) name.Unknown)))))
+    cond (eqb mark (letters 86 116)) (Some Vt)
+    (cond (eqb mark (letters 82 116)) (Some Rt)
+    (cond (eqb mark (letters 66 107)) (Some Bk)
+    (cond (eqb mark (letters 79 112)) (Some Op)
+    (cond (eqb mark (letters 80 118)) (Some Pv) (cond (eqb mark (letters 80 99)) (Some Pc) None)))))
 
 -- the bytes of a record after its mark
 abbrev pub size : Mark → ℕ
@@ -36,9 +35,9 @@ size Pv = 20
 size Pc = 20
 
 -- a record of this mark is whole
-abbrev pub whole : List ℕ → Named → Record
-whole bs (name.Known m) = cond (ltb (length bs) (2 + size m)) is.Cut (is.Whole m)
-whole bs name.Unknown = is.Unknown
+abbrev pub whole : List ℕ → Option Mark → Record
+whole bs (Some m) = cond (ltb (length bs) (2 + size m)) is.Cut (is.Whole m)
+whole bs None = is.Unknown
 
 -- what stands at the start of some bytes
 unfoldable pub read : List ℕ → Record
@@ -60,7 +59,7 @@ long fs at = word fs at + 4294967296 * word fs (at + 4)
 
 -- why no record is whole at the start of some bytes: 17 at an unknown mark; a whole record is another's to judge
 abbrev pub ends : Record → End
-ends is.Unknown = end.Refused 17
+ends is.Unknown = end.Refused UnknownMark
 ends is.Cut = end.Cut
 ends (is.Whole m) = end.Left
 

@@ -4,6 +4,8 @@
 ghost use Rattle.std.specs.Prelude.{◌≡◌, ◌+◌, ◌≤◌, ◌<◌, length};
 ghost use Rattle.marks.specs.Marks.{named, size, read, fields, word, long, ending};
 
+use refusals::Refusal;
+
 #[derive(Clone, Copy)]
 pub enum Mark {
     Vt,
@@ -12,13 +14,6 @@ pub enum Mark {
     Op,
     Pv,
     Pc,
-}
-
-// What two bytes name.
-#[derive(Clone, Copy)]
-pub enum Named {
-    Known(Mark),
-    Unknown,
 }
 
 // What stands at the start of some bytes.
@@ -33,15 +28,8 @@ pub enum Record {
 #[derive(Clone, Copy)]
 pub enum End {
     Cut,
-    Refused(u8),
+    Refused(Refusal),
     Left,
-}
-
-// What a record does to a loop over records: it goes on after the record, or is over at it.
-#[derive(Clone, Copy)]
-pub enum Turn {
-    Goes,
-    Over(End),
 }
 
 fn wide(b: u8) -> u32
@@ -57,17 +45,17 @@ fn wider(w: u32) -> u64
 }
 
 // The two bytes go as one number, so that one look tells the mark.
-fn name(mark: u32) -> Named
+fn name(mark: u32) -> Option<Mark>
     ensures { result ≡ named mark }
 {
     match mark {
-        0x7456 => Named::Known(Mark::Vt),
-        0x7452 => Named::Known(Mark::Rt),
-        0x6b42 => Named::Known(Mark::Bk),
-        0x704f => Named::Known(Mark::Op),
-        0x7650 => Named::Known(Mark::Pv),
-        0x6350 => Named::Known(Mark::Pc),
-        _ => Named::Unknown,
+        0x7456 => Some(Mark::Vt),
+        0x7452 => Some(Mark::Rt),
+        0x6b42 => Some(Mark::Bk),
+        0x704f => Some(Mark::Op),
+        0x7650 => Some(Mark::Pv),
+        0x6350 => Some(Mark::Pc),
+        _ => None,
     }
 }
 
@@ -92,7 +80,7 @@ pub fn read(bytes: &[u8]) -> Record
     if bytes.len() < 2 {
         return Record::Cut;
     }
-    let Named::Known(mark) = name(wide(bytes[0]) + 256 * wide(bytes[1])) else {
+    let Some(mark) = name(wide(bytes[0]) + 256 * wide(bytes[1])) else {
         return Record::Unknown;
     };
     if bytes.len() < 2 + size(mark) {
@@ -133,7 +121,7 @@ pub fn ending(bytes: &[u8]) -> End
     ensures { result ≡ ending bytes.now }
 {
     match read(bytes) {
-        Record::Unknown => End::Refused(17),
+        Record::Unknown => End::Refused(Refusal::UnknownMark),
         Record::Cut => End::Cut,
         Record::Whole(_) => End::Left,
     }

@@ -1,7 +1,6 @@
 -- The vote graph in columns. Document 01, "Forms that must change": arrays with counts, kept in the Rust's order; "Shape
 -- rules": every node but the base listed once, under the nearest node above it; heads the nodes that list none.
-use Rattle.std.specs.Prelude.{Bool, List, ◌≡◌, ◌≢◌, ℕ, ◌≤◌, ◌<◌, T, length}
-use Rattle.std.proofs.Math.Option.{Option, none, some}
+use Rattle.std.specs.Prelude.{Bool, List, ◌≡◌, ◌≢◌, ℕ, ◌≤◌, ◌<◌, T, length, Option, Some, None}
 use Rattle.sizes.specs.Sizes.{WORDS, BLOCKS}
 use Rattle.lent.specs.Moment.{Moment}
 use Rattle.loops.specs.Listing.{front}
@@ -10,8 +9,6 @@ use Rattle.graph.specs.Search.{nearest}
 use Rattle.graph.specs.Graph.{Graph}
 use Rattle.graph.specs.Shape.{Nodes}
 use Rattle.nodes.specs.Nodes.{col, flag, row, Falls}
-use Rattle.nodes.specs.declared.Found.{Found}
-use Rattle.nodes.specs.declared.Found.TheVariants.{At, Nothing}
 
 -- the columns that a vote changes
 pub record Columns : Type 0 where
@@ -64,6 +61,3 @@ pub record Sound (parents ids : List ℕ) (base count : ℕ) (g : Columns) : Typ
   pub heads_clear : g.heads ≡ padded BLOCKS (front g.tips g.heads)
 
 -- an answer as the code gives it
-abbrev pub as_found : Option ℕ → Found
-as_found none = Nothing
-as_found (some x) = At x

@@ -22,13 +22,6 @@ pub struct Places {
     pub count: usize,
 }
 
-// A block, or none.
-#[derive(Clone, Copy)]
-pub enum Found {
-    At(u8),
-    Nothing,
-}
-
 // The two questions that the Rust asks by closures.
 #[derive(Clone, Copy)]
 pub enum Condition {

@@ -4,8 +4,7 @@
 use context::{Phase, Vote, VoteNode};
 use std::io::Result;
 use streams::Outputs;
-use voter_info::Lookup;
-use voter_set::{Answer, Nth, VoterSet};
+use voter_set::{Answer, VoterSet};
 
 const MOST: u64 = 18446744073709551615;
 
@@ -51,7 +50,7 @@ fn voters(to: Outputs, name: &[u8], ids: &[u32], weights: &[u64]) -> Result<()> 
 // The words of a vote's bit.
 fn bit(to: Outputs, name: &[u8], set: VoterSet, id: u32, phase: Phase) -> Result<()> {
     say(to, name)?;
-    let Lookup::Voter(voter) = set.get(id) else {
+    let Some(voter) = set.get(id) else {
         return say(to, b": no voter\n");
     };
     let node = VoteNode::default().add_vote(Vote::new(voter, phase));
@@ -94,7 +93,7 @@ fn primary(to: Outputs) -> Result<()> {
     let ones = [1u64; 4];
     let made = VoterSet::new(&four, &ones);
     let set = made.voters;
-    let Nth::Place(id, voter) = set.nth_mod(7) else {
+    let Some((id, voter)) = set.nth_mod(7) else {
         return say(to, b"round 7: no primary\n");
     };
     say_number(to, b"round 7, voters 1 to 4: primary voter ", id as u64)?;

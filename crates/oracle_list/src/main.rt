@@ -4,7 +4,6 @@
 ghost use Rattle.std.specs.Prelude.{◌≡◌, ◌≤◌, min, length as length_of};
 
 use feeding::Replay;
-use listing::Written;
 use std::io::{Result, Stdin};
 use streams::{Moved, Outputs};
 
@@ -118,7 +117,7 @@ fn same(a: &[u8; 512], size: usize, b: &[u8; 512], other: usize) -> bool {
 
 // The lines of a replay.
 fn lines(replay: Replay, out: &mut [u8; 512]) -> usize {
-    let Written::Bytes(size) = report::print(replay, out) else {
+    let Ok(size) = report::print(replay, out) else {
         return 0;
     };
     least(size, 512)

@@ -6,6 +6,7 @@ use Rattle.marks.specs.declared.Mark.TheVariants.{Vt, Rt, Bk, Op, Pv, Pc}
 use Rattle.marks.specs.Marks.{word, long}
 use Rattle.runs.specs.Run.{Next, goes, stops, leaves}
 use Rattle.pairing.specs.declared.Pairs.{Pairs}
+use Rattle.refusals.specs.declared.Refusal.TheVariants.{OutOfTurn, VoterList}
 
 -- one more pair, after those before
 abbrev pub with_pair : Pairs → ℕ → ℕ → Pairs
@@ -14,9 +15,9 @@ with_pair p voter weight =
 
 -- a record in the first turn; the Rt ends it
 unfoldable pub paired : Pairs → Mark → List ℕ → Next Pairs
-paired p Vt fs = cond (leb PAIRS p.count) (stops 1) (goes (with_pair p (word fs 0) (long fs 4)))
+paired p Vt fs = cond (leb PAIRS p.count) (stops VoterList) (goes (with_pair p (word fs 0) (long fs 4)))
 paired p Rt fs = leaves
-paired p Bk fs = stops 18
-paired p Op fs = stops 18
-paired p Pv fs = stops 18
-paired p Pc fs = stops 18
+paired p Bk fs = stops OutOfTurn
+paired p Op fs = stops OutOfTurn
+paired p Pv fs = stops OutOfTurn
+paired p Pc fs = stops OutOfTurn

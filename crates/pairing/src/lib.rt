@@ -4,14 +4,15 @@
 ghost use Rattle.std.specs.Prelude.{◌≡◌, ◌≤◌, length, drop};
 ghost use Rattle.sizes.specs.Sizes.{PAIRS};
 ghost use Rattle.marks.specs.Marks.{size};
-ghost use Rattle.marks.specs.declared.Turn.TheVariants.{Over};
 ghost use Rattle.runs.specs.Run.{Run, ran};
 ghost use Rattle.runs.specs.Tried.{Tried, tried};
 ghost use Rattle.pairing.specs.declared.Pairs.{Pairs};
 ghost use Rattle.pairing.specs.Pairing.{paired};
 
-use marks::{End, Mark, Record, Turn};
+use marks::{End, Mark, Record};
+use refusals::Refusal;
 use sizes::PAIRS;
+use std::ops::ControlFlow;
 
 // Pairs in the order in which they came; the first `count` places are used.
 #[derive(Clone, Copy)]
@@ -24,7 +25,7 @@ pub struct Pairs {
 // The pairs after a record, and whether the turn goes on.
 #[derive(Clone, Copy)]
 struct Took {
-    turn: Turn,
+    turn: ControlFlow<End>,
     pairs: usize,
 }
 
@@ -39,10 +40,10 @@ pub struct Paired {
 
 // The turn is over at a record, which leaves the pairs as they are.
 fn over(end: End, pairs: usize) -> Took
-    ensures { result ≡ record { turn = Over end; pairs = pairs } }
+    ensures { result ≡ record { turn = Break end; pairs = pairs } }
 {
     Took {
-        turn: Turn::Over(end),
+        turn: ControlFlow::Break(end),
         pairs,
     }
 }
@@ -62,20 +63,20 @@ fn take(
     match mark {
         Mark::Vt => {
             if PAIRS <= pairs {
-                return over(End::Refused(1), pairs);
+                return over(End::Refused(Refusal::VoterList), pairs);
             }
             ids[pairs] = marks::word(fields, 0);
             weights[pairs] = marks::long(fields, 4);
             Took {
-                turn: Turn::Goes,
+                turn: ControlFlow::Continue(()),
                 pairs: pairs + 1,
             }
         }
         Mark::Rt => over(End::Left, pairs),
-        Mark::Bk => over(End::Refused(18), pairs),
-        Mark::Op => over(End::Refused(18), pairs),
-        Mark::Pv => over(End::Refused(18), pairs),
-        Mark::Pc => over(End::Refused(18), pairs),
+        Mark::Bk => over(End::Refused(Refusal::OutOfTurn), pairs),
+        Mark::Op => over(End::Refused(Refusal::OutOfTurn), pairs),
+        Mark::Pv => over(End::Refused(Refusal::OutOfTurn), pairs),
+        Mark::Pc => over(End::Refused(Refusal::OutOfTurn), pairs),
     }
 }
 
@@ -103,11 +104,11 @@ pub fn run(ids: &mut [u32; PAIRS], weights: &mut [u64; PAIRS], count: usize, byt
         let turn = took.turn;
         pairs = took.pairs;
         match turn {
-            Turn::Goes => {
+            ControlFlow::Continue(()) => {
                 taken = taken + 1;
                 at = at + 2 + fields.len();
             }
-            Turn::Over(end) => {
+            ControlFlow::Break(end) => {
                 return Paired {
                     pairs,
                     count: taken,

@@ -2,7 +2,6 @@
 #![tactic(auto)]
 
 use feeding::Replay;
-use listing::Written;
 use std::io::{Print, Result, Stdin};
 use streams::{Moved, Outputs};
 
@@ -18,7 +17,7 @@ fn put(to: Outputs, bytes: &[u8]) -> Result<()> {
 
 fn print(to: Outputs, replay: Replay) -> Result<()> {
     let mut out = [0u8; 512];
-    let Written::Bytes(size) = report::print(replay, &mut out) else {
+    let Ok(size) = report::print(replay, &mut out) else {
         return Ok(());
     };
     if 512 < size {

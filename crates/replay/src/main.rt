@@ -4,7 +4,6 @@
 ghost use Rattle.std.specs.Prelude.{◌≡◌};
 
 use feeding::Replay;
-use listing::Written;
 use std::io::{Result, Stdin};
 use streams::{Moved, Outputs};
 
@@ -56,7 +55,7 @@ fn run(input: Stdin, to: Outputs) -> Result<()> {
         streams::unread(to, b"replay: standard input", moved);
         return Ok(());
     };
-    let Written::Bytes(size) = report::print(read.replay, &mut out) else {
+    let Ok(size) = report::print(read.replay, &mut out) else {
         return Ok(());
     };
     if 512 < size {

@@ -4,7 +4,6 @@ use mathlib.Core.List.{List, [], ◌∷◌, ◌++◌}
 use mathlib.Core.Path.{◌≡◌, refl}
 use Prim.Native.Nat.{ℕ}
 use lib.ListN.{length}
-use Rattle.nodes.specs.declared.Found.TheVariants.{At, Nothing}
 use Rattle.context.specs.declared.Phase.TheVariants.{Prevote, Precommit}
 use Rattle.records.specs.Bytes.{little, vote_bytes}
 use Rattle.round.specs.declared.Round.{Round}
@@ -49,6 +48,7 @@ use Rattle.voting.specs.Voting as voting
 use Rattle.turns.specs.Turns.{rooted, based, took}
 use Rattle.journal.specs.Journal.{round_of, run_from}
 use Rattle.feeding.specs.Feeding.{kept_rest, after_run, replayed}
+use Rattle.std.specs.Prelude.{Some, None}
 
 -- the records by their fields
 abbrev vt : ℕ → List ℕ
@@ -105,11 +105,11 @@ pub document_01 :
     × ((replayed case_j).records ≡ 16)
     × ((replayed case_j).rest.count ≡ 0)
     × ((round_after case_j).heard ≡ record { prevote = 4; precommit = 3 })
-    × ((round_after case_j).answers ≡ record { prevote = At 2; precommit = Nothing; finalized = At 1; estimate = At 2; completable = true })
-    × ((round_after three_prevotes).answers ≡ record { prevote = At 1; precommit = Nothing; finalized = Nothing; estimate = At 1; completable = false })
-    × ((round_after second_precommit).answers.finalized ≡ At 2)
-    × ((round_after three_precommits).answers.estimate ≡ At 2)
-    × ((round_after four_precommits).answers.estimate ≡ At 1)
+    × ((round_after case_j).answers ≡ record { prevote = Some 2; precommit = None; finalized = Some 1; estimate = Some 2; completable = true })
+    × ((round_after three_prevotes).answers ≡ record { prevote = Some 1; precommit = None; finalized = None; estimate = Some 1; completable = false })
+    × ((round_after second_precommit).answers.finalized ≡ Some 2)
+    × ((round_after three_precommits).answers.estimate ≡ Some 2)
+    × ((round_after four_precommits).answers.estimate ≡ Some 1)
     × ((round_after four_precommits).answers.completable ≡ true)
 unfolding
     vote_bytes all any times keep some_of fold front loops.run first sum find contains padded shift in_word has put words joined blank mask every search_up first_of finalized_of estimate_of completable_of told_from climb within below pairs.enter voters info look_up new place_of append step table.opened layout.RUN layout.bit layout.index votes.bit votes.voted weight_of voters_heard_in find_ancestor towards first_in meets merge settle following find_ghost join_of tally children graph.enter relist add_node graph.mark graph.insert hold_from lead hold note containing until nearest placed held_from held found listed_under passes insert.opened set_all insert.added marked_from marked inserted recorded cast phase_ghost update judge_first judge import named read fields after word long runs.run ran paired growing.added grown counted voting.voted rooted based took round_of run_from kept_rest after_run replayed

@@ -11,26 +11,26 @@ use Rattle.runs.specs.Parsed.{parsed, tail, span, within}
 use Rattle.runs.proofs.Cuts.{cut_anywhere}
 use Rattle.turns.specs.Turns as turns
 use Rattle.turns.specs.Turns.{pairing, took, no_pairs}
-use Rattle.feeding.specs.declared.Stop.TheVariants.{Open, Refused}
 use Rattle.feeding.specs.declared.Replay.{Replay}
 use Rattle.feeding.specs.Feeding.{after_run, replayed}
 use Rattle.replay_laws.specs.Ends.{taken, open_after}
 use Rattle.replay_laws.proofs.Holds.{replay_not_left}
 use Rattle.replay_laws.proofs.Feeds.{replayed_refused}
 use Rattle.replay_laws.proofs.Ends.{value_of, run_end, to_end, when_end}
+use Rattle.std.specs.Prelude.{Ok, Err}
 
 -- an accepted journal is one whose run comes to its end
-open_run : (bs : List ℕ) → (replayed bs).stop ≡ Open → (turns.replayed bs).end ≡ Cut
+open_run : (bs : List ℕ) → (replayed bs).stop ≡ Ok tt → (turns.replayed bs).end ≡ Cut
 open_run bs o = go (turns.replayed bs).end refl
   where
     go : (x : End) → (turns.replayed bs).end ≡ x → (turns.replayed bs).end ≡ Cut
     go Cut e = e
     go (end.Refused k) e =
-        let s : (replayed bs).stop ≡ Refused k = ap (λ (r : Replay). r.stop) (replayed_refused bs k e) in
+        let s : (replayed bs).stop ≡ Err k = ap (λ (r : Replay). r.stop) (replayed_refused bs k e) in
         absurd (let z : ◌≡◌ {A = ℕ} 0 1 = cc in omega arith)
     go Left e = absurd (replay_not_left bs e)
 
-module _ (bs : List ℕ) (accepted : (replayed bs).stop ≡ Open) where
+module _ (bs : List ℕ) (accepted : (replayed bs).stop ≡ Ok tt) where
   -- all whole records are taken, and the tail is what is left after the last
   pub open_means : ((taken (parsed bs)).end ≡ Cut) × (replayed bs ≡ open_after (parsed bs) (tail bs))
   open_means = let t = to_end bs (open_run bs accepted) in (t.0, when_end bs t.0 t.1)

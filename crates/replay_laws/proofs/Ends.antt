@@ -19,11 +19,12 @@ use Rattle.turns.specs.Turns as turns
 use Rattle.turns.specs.Turns.{pairing, took, no_pairs}
 use Rattle.turns.proofs.Keeps.{Then}
 use Rattle.journal.specs.Journal.{laid, by_value, run_from}
-use Rattle.feeding.specs.declared.Stop.TheVariants.{Refused}
 use Rattle.feeding.specs.declared.Replay.{Replay}
 use Rattle.feeding.specs.Feeding.{kept_rest, after_run, replayed}
 use Rattle.replay_laws.specs.Ends.{taken, open_after, stopped_after, Ends, at_end, at_mark, at_record}
 use Rattle.replay_laws.proofs.Holds.{replay_not_left, left_cut}
+use Rattle.std.specs.Prelude.{Err}
+use Rattle.refusals.specs.declared.Refusal.TheVariants.{UnknownMark}
 
 module _ {S : Type 0} (step : S → Mark → List ℕ → Next S) where
   pub first_goes : (s t : S) (e : Entry) (es : List Entry) → step s e.mark e.fields ≡ goes t → folded step s (e ∷ es) ≡ folded_on (folded step t es)
@@ -139,7 +140,7 @@ unfolding tail_end
 tail_refused bs k c = go (read bs) refl
   where
     go : (x : Record) → read bs ≡ x → (read bs ≡ is.Unknown) × (k ≡ 17)
-    go is.Unknown e = let q : end.Refused 17 ≡ end.Refused k = (rw e at c) in (e, cc)
+    go is.Unknown e = let q : end.Refused UnknownMark ≡ end.Refused k = (rw e at c) in (e, cc)
     go is.Cut e = absurd (let q = rw e at c in let z : ◌≡◌ {A = ℕ} 0 1 = cc in omega arith)
     go (is.Whole m) e = absurd (let q = rw e at c in let z : ◌≡◌ {A = ℕ} 0 1 = cc in omega arith)
 
@@ -176,7 +177,7 @@ module _ (bs : List ℕ) where
       let f : taken (parsed bs) ≡ record { state = (taken es).state; count = length es; end = end.Refused n } =
       ap taken s ∙ split_refused took (pairing no_pairs) es e later n c q in
       value_of bs _ (folds_refused took (pairing no_pairs) bs n (ap (λ (r : Folded turns.Journal). r.end) f))
-      ∙ ap (λ (r : Folded turns.Journal). record { journal = laid r.state; rest = kept_rest []; records = plus 0 r.count; stop = Refused n }) f
+      ∙ ap (λ (r : Folded turns.Journal). record { journal = laid r.state; rest = kept_rest []; records = plus 0 r.count; stop = Err n }) f
 
   pub ends_once : (r : Replay) → Ends bs r → replayed bs ≡ r
   ends_once _ (at_end c e) = when_end c e

@@ -32,13 +32,14 @@ use Rattle.turns.proofs.Keeps.{took_kept, ran_has}
 use Rattle.feeding.proofs.Goes.{after_counted}
 use Rattle.journal.proofs.Laid.{told_laid, stands_told, laid_stands}
 use Rattle.journal.proofs.Turning.{from_ended, from_counted}
-use Rattle.feeding.specs.declared.Stop.{Stop}
-use Rattle.feeding.specs.declared.Stop.TheVariants.{Open, Refused}
 use Rattle.feeding.specs.declared.Replay.{Replay}
 use Rattle.feeding.specs.declared.Fed.{Fed}
 use Rattle.feeding.specs.Feeding.{bytes_of, is_cut, rest_stands, over, kept_rest, ended_by, after_run, started, replayed, went, stands, answered, unless, fed}
 use Rattle.replay_laws.specs.Pieces.{fed_all}
 use Rattle.replay_laws.proofs.Holds.{never_left}
+use Rattle.std.specs.Prelude.{Result, Ok, Err, ⊤}
+use Rattle.refusals.specs.declared.Refusal.{Refusal}
+use Rattle.refusals.specs.declared.Refusal.TheVariants.{Misshapen}
 
 -- bytes that are kept are read again
 pub rest_again : (bs : List ℕ) → bytes_of (kept_rest bs) ≡ bs
@@ -53,10 +54,10 @@ rest_passes bs e =
 
 -- a replay that is open, and one that has stopped
 abbrev open_at : turns.Journal → List ℕ → ℕ → Replay
-open_at j rest n = record { journal = laid j; rest = kept_rest rest; records = n; stop = Open }
+open_at j rest n = record { journal = laid j; rest = kept_rest rest; records = n; stop = Ok tt }
 
 abbrev stopped_at : turns.Journal → ℕ → ℕ → Replay
-stopped_at j n k = record { journal = laid j; rest = kept_rest []; records = n; stop = Refused k }
+stopped_at j n k = record { journal = laid j; rest = kept_rest []; records = n; stop = Err k }
 
 ended_at : (r : Run turns.Journal) (x : End) → r.end ≡ x → r ≡ ended r.state r.count r.rest x
 ended_at r x e = ap (ended r.state r.count r.rest) e
@@ -110,14 +111,14 @@ fed_open j rest n s c b =
     (λ i. answered (after_run n (run_from (told_laid j i) (rest_again rest i ++ b))))
 
 -- what is taken while it is refused stays as it is
-pub fed_stopped : (r : Replay) (k : ℕ) (b : List ℕ) → r.stop ≡ Refused k → T (stands r) → fed r b ≡ record { answer = Refused k; replay = r }
+pub fed_stopped : (r : Replay) (k : ℕ) (b : List ℕ) → r.stop ≡ Err k → T (stands r) → fed r b ≡ record { answer = Err k; replay = r }
 unfolding fed
 fed_stopped r k b e t =
-    on_true (λ (x : Fed). x ≡ record { answer = Refused k; replay = r }) (stands r) _ _ t
-    (ap (λ (s : Stop). unless s r (went r.journal r.rest r.records b)) e)
+    on_true (λ (x : Fed). x ≡ record { answer = Err k; replay = r }) (stands r) _ _ t
+    (ap (λ (s : Result ⊤ Refusal). unless s r (went r.journal r.rest r.records b)) e)
 
--- a state that breaks the rules is refused with 9 and comes back equal
-pub fed_nine : (r : Replay) (b : List ℕ) → stands r ≡ false → fed r b ≡ record { answer = Refused 9; replay = r }
+-- a state that breaks the rules is refused with Misshapen and comes back equal
+pub fed_nine : (r : Replay) (b : List ℕ) → stands r ≡ false → fed r b ≡ record { answer = Err Misshapen; replay = r }
 unfolding fed
 fed_nine r b e = rw e
 
@@ -151,16 +152,16 @@ module _ (j : turns.Journal) (n : ℕ) (a b : List ℕ) where
           ∙ fed_open before.state before.rest (plus n before.count) (ran_has took (Stands Kept) took_kept j a s) (rest_cut took j a e) b
           ∙ ap answered (sym (after_goes_on e))
       go (end.Refused k) e =
-          let stop : (after_run n (run_from j a)).stop ≡ Refused k = ap (λ (r : Replay). r.stop) (after_refused j n a k e) in
+          let stop : (after_run n (run_from j a)).stop ≡ Err k = ap (λ (r : Replay). r.stop) (after_refused j n a k e) in
           fed_stopped (after_run n (run_from j a)) k b stop (after_stands j s n a)
-          ∙ ap (λ (x : Stop). record { answer = x; replay = after_run n (run_from j a) }) (sym stop)
+          ∙ ap (λ (x : Result ⊤ Refusal). record { answer = x; replay = after_run n (run_from j a) }) (sym stop)
           ∙ ap answered (sym (after_stays k e))
       go end.Left e = absurd (never_left j a e)
 
 -- any replay that is handed in: fed twice it is fed once, with both pieces
 module _ (r : Replay) (fits : r.journal.round.context.voters.total ≤ most) where
   -- one that is open and keeps the rules
-  fed_went : (b : List ℕ) → stands r ≡ true → r.stop ≡ Open
+  fed_went : (b : List ℕ) → stands r ≡ true → r.stop ≡ Ok tt
       → fed r b ≡ answered (after_run r.records (run_from (told r.journal) (bytes_of r.rest ++ b)))
   unfolding fed went
   fed_went b t o = rw (t, o)
@@ -168,13 +169,13 @@ module _ (r : Replay) (fits : r.journal.round.context.voters.total ≤ most) whe
   pub fed_twice : (a b : List ℕ) → fed (fed r a).replay b ≡ fed r (a ++ b)
   fed_twice a b = go (stands r) refl r.stop refl
     where
-      same : (x : Stop) → ((c : List ℕ) → fed r c ≡ record { answer = x; replay = r }) → fed (fed r a).replay b ≡ fed r (a ++ b)
+      same : (x : Result ⊤ Refusal) → ((c : List ℕ) → fed r c ≡ record { answer = x; replay = r }) → fed (fed r a).replay b ≡ fed r (a ++ b)
       same x f = ap (λ (y : Fed). fed y.replay b) (f a) ∙ f b ∙ sym (f (a ++ b))
 
-      go : (t : Bool) → stands r ≡ t → (x : Stop) → r.stop ≡ x → fed (fed r a).replay b ≡ fed r (a ++ b)
-      go false t x o = same (Refused 9) (λ c. fed_nine r c t)
-      go true t (Refused k) o = same (Refused k) (λ c. fed_stopped r k c o (T_true t))
-      go true t Open o =
+      go : (t : Bool) → stands r ≡ t → (x : Result ⊤ Refusal) → r.stop ≡ x → fed (fed r a).replay b ≡ fed r (a ++ b)
+      go false t x o = same (Err Misshapen) (λ c. fed_nine r c t)
+      go true t (Err k) o = same (Err k) (λ c. fed_stopped r k c o (T_true t))
+      go true t (Ok tt) o =
           let old = bytes_of r.rest in
           let j = told r.journal in
           ap (λ (y : Fed). fed y.replay b) (fed_went a t o)

@@ -12,10 +12,6 @@ use Rattle.voter_set.specs.declared.Answer.TheVariants.{Made, Refused}
 use Rattle.voter_set.specs.Voters.{new}
 use Rattle.voter_laws.proofs.Made.{made_fit, made_total}
 use Rattle.blocks.specs.declared.BlockTable.{BlockTable}
-use Rattle.blocks.specs.declared.Answer as block
-use Rattle.blocks.specs.declared.Answer.TheVariants as answer
-use Rattle.blocks.specs.declared.Place.{Place}
-use Rattle.blocks.specs.declared.Place.TheVariants.{At, Nothing}
 use Rattle.blocks.specs.Add.{place_of, on_place, step}
 use Rattle.block_table.specs.Add.{opened}
 use Rattle.importing.specs.Import.{import, with_table}
@@ -45,6 +41,9 @@ use Rattle.turns.specs.Turns.{Journal, pairing, growing, voting, seated, rooted,
 use Rattle.turns.specs.Stands.{Stands}
 use Rattle.turns.proofs.Keeps.{Then, took_kept, took_reached, ran_has}
 use Rattle.replay_laws.specs.Weighs.{Weighs}
+use Rattle.std.specs.Prelude.{Option, Some, None, Result, Ok, Err}
+use Rattle.refusals.specs.declared.Refusal.{Refusal}
+use Rattle.refusals.specs.declared.Refusal.TheVariants.{OutOfTurn, UnknownBase}
 
 -- the shape rules, and in the third turn a round that calls reach
 pub replay_kept : (bs : List ℕ) → Stands Kept (replayed bs).state
@@ -78,15 +77,15 @@ based_answers : (v : VoterSet) (t : BlockTable) (fs : List ℕ) → Answers (bas
 unfolding based
 based_answers v t fs = go (place_of t.ids t.count (word fs 8))
   where
-    go : (o : Place) → Answers (on_place o (λ b. goes (voting (opened_round (long fs 0) v t b))) (stops 10))
-    go (At b) = tt
-    go Nothing = tt
+    go : (o : Option ℕ) → Answers (on_place o (λ b. goes (voting (opened_round (long fs 0) v t b))) (stops UnknownBase))
+    go (Some b) = tt
+    go None = tt
 
 took_answers : (j : Journal) (m : Mark) (fs : List ℕ) → Answers (took j m fs)
 unfolding took
 took_answers (pairing p) m fs = through_answers pairing (paired p m fs) (rooted p fs) (rooted_answers p fs)
 took_answers (growing v t) m fs = through_answers (growing v) (grown t m fs) (based v t fs) (based_answers v t fs)
-took_answers (voting r) m fs = through_answers voting (voted r m fs) (stops 18) tt
+took_answers (voting r) m fs = through_answers voting (voted r m fs) (stops OutOfTurn) tt
 
 -- so a replay is never left
 pub never_left : (j : Journal) (bs : List ℕ) → (ran took j bs).end ≢ Left
@@ -105,21 +104,21 @@ left_cut bs e = rest_cut took (pairing no_pairs) bs e
 module _ (Q : Voting → Type 0) (r : Voting)
     (votes : (phase : Phase) (signer : ℕ) (p : Pair) → Q (record { frame = r.frame; held = (import r.frame phase signer p r.held).held }))
     (adds : (id parent : ℕ) → Q (record { frame = with_table r.frame (step r.frame.table id parent).table; held = r.held })) where
-  answered_by : (s : Voting) → Q s → (a : ImportResult) → Then Q (vote.answered s a)
-  answered_by s q (result.Refused n) = tt
-  answered_by s q result.Outside = q
-  answered_by s q result.Counted = q
-  answered_by s q result.Duplicated = q
-  answered_by s q (result.Equivocated e) = q
-  answered_by s q result.Ignored = q
+  answered_by : (s : Voting) → Q s → (a : Result ImportResult Refusal) → Then Q (vote.answered s a)
+  answered_by s q (Err n) = tt
+  answered_by s q (Ok result.Outside) = q
+  answered_by s q (Ok result.Counted) = q
+  answered_by s q (Ok result.Duplicated) = q
+  answered_by s q (Ok (result.Equivocated e)) = q
+  answered_by s q (Ok result.Ignored) = q
 
   pub voted_by : (m : Mark) (fs : List ℕ) → Then Q (voted r m fs)
   unfolding voted counted grown added
   voted_by Bk fs = go (step r.frame.table (word fs 0) (word fs 4)).answer
     where
-      go : (a : block.Answer) → Then Q (with_blocks r (blocks.answered (step r.frame.table (word fs 0) (word fs 4)).table a))
-      go (answer.Placed k) = adds (word fs 0) (word fs 4)
-      go (answer.Refused n) = tt
+      go : (a : Result ℕ Refusal) → Then Q (with_blocks r (blocks.answered (step r.frame.table (word fs 0) (word fs 4)).table a))
+      go (Ok k) = adds (word fs 0) (word fs 4)
+      go (Err n) = tt
   voted_by Pv fs = answered_by _ (votes Prevote (word fs 0) (pair_in fs)) (import r.frame Prevote (word fs 0) (pair_in fs) r.held).answer
   voted_by Pc fs = answered_by _ (votes Precommit (word fs 0) (pair_in fs)) (import r.frame Precommit (word fs 0) (pair_in fs) r.held).answer
   voted_by Vt fs = tt
@@ -156,16 +155,16 @@ based_weighs : (v : VoterSet) (t : BlockTable) → 0 < v.total → (fs : List �
 unfolding based
 based_weighs v t h fs = go (place_of t.ids t.count (word fs 8))
   where
-    go : (o : Place) → Then Weighs (on_place o (λ b. goes (voting (opened_round (long fs 0) v t b))) (stops 10))
-    go (At b) = h
-    go Nothing = tt
+    go : (o : Option ℕ) → Then Weighs (on_place o (λ b. goes (voting (opened_round (long fs 0) v t b))) (stops UnknownBase))
+    go (Some b) = h
+    go None = tt
 
 took_weighs : (j : Journal) → Weighs j → (m : Mark) (fs : List ℕ) → Then Weighs (took j m fs)
 unfolding took
 took_weighs (pairing p) h m fs = through_then Weighs pairing (paired p m fs) (rooted p fs) (then_all (λ q. Unit {0}) (λ q. tt) (paired p m fs)) (rooted_weighs p fs)
 took_weighs (growing v t) h m fs = through_then Weighs (growing v) (grown t m fs) (based v t fs) (then_all (λ u. 0 < v.total) (λ u. h) (grown t m fs)) (based_weighs v t h fs)
 took_weighs (voting r) h m fs =
-    through_then Weighs voting (voted r m fs) (stops 18) (voted_by (λ (s : Voting). 0 < s.frame.voters.total) r (λ phase signer p. h) (λ id parent. h) m fs) tt
+    through_then Weighs voting (voted r m fs) (stops OutOfTurn) (voted_by (λ (s : Voting). 0 < s.frame.voters.total) r (λ phase signer p. h) (λ id parent. h) m fs) tt
 
 pub replay_weighs : (bs : List ℕ) → Weighs (replayed bs).state
 unfolding replayed

@@ -15,21 +15,14 @@ use Rattle.weights.specs.Weights.{most}
 use Rattle.totals.specs.Totals.{total_of}
 use Rattle.voter_pairs.specs.Voters as pairs
 use Rattle.voter_info.specs.declared.VoterInfo.{VoterInfo}
-use Rattle.voter_info.specs.declared.Lookup.{Lookup}
-use Rattle.voter_info.specs.declared.Lookup.TheVariants as lookup
 use Rattle.voter_info.specs.Info.{look_up}
 use Rattle.voter_set.specs.declared.VoterSet.{VoterSet}
-use Rattle.voter_set.specs.declared.NewVoterSet.{NewVoterSet}
 use Rattle.voter_set.specs.declared.Answer.{Answer}
 use Rattle.voter_set.specs.declared.Answer.TheVariants.{Made, Refused}
 use Rattle.voter_set.specs.Voters as set
 use Rattle.voter_set.specs.Voters.{new}
 use Rattle.blocks.specs.declared.BlockTable.{BlockTable}
 use Rattle.blocks.specs.declared.Added.{Added}
-use Rattle.blocks.specs.declared.Answer as block
-use Rattle.blocks.specs.declared.Answer.TheVariants as answer
-use Rattle.blocks.specs.declared.Place.{Place}
-use Rattle.blocks.specs.declared.Place.TheVariants.{At, Nothing}
 use Rattle.blocks.specs.Add.{place_of, on_place, refused, placed, append, step}
 use Rattle.block_table.specs.Add.{opened}
 use Rattle.context.specs.declared.Phase.{Phase}
@@ -63,13 +56,15 @@ use Rattle.voting.specs.Voting as vote
 use Rattle.voting.specs.Voting.{Voting, pair_in, counted, with_blocks, voted}
 use Rattle.turns.specs.Turns.{Journal, pairing, growing, voting, seated, rooted, opened_round, based, took, no_pairs}
 use Rattle.turns.proofs.Keeps.{Then}
-use Rattle.feeding.specs.declared.Stop.TheVariants as stop
 use Rattle.feeding.specs.declared.Replay.{Replay}
 use Rattle.feeding.specs.Feeding.{replayed}
 use Rattle.replay_laws.specs.Ends.{taken, Ends, at_end, at_mark, at_record}
 use Rattle.replay_laws.specs.Turned.{Part, voters, blocks, votes, part_of, may, Own, Paired}
 use Rattle.replay_laws.proofs.Holds.{then_all, through_then}
 use Rattle.replay_laws.proofs.Ends.{folded_has, replay_ends}
+use Rattle.std.specs.Prelude.{Option, Some, None, Result, Ok, Err}
+use Rattle.refusals.specs.declared.Refusal.{Refusal}
+use Rattle.refusals.specs.declared.Refusal.TheVariants.{OutOfTurn, UnknownMark, KnownBlock, NoWeight, NumberOverflow, OffTheBase, TableFull, TooManyVoters, UnknownBase, UnknownParent, UnknownTarget, VoterList, WeightOverflow, WrongNumber}
 
 -- either way of a test
 either : {A : Type 0} (P : A → Type 0) (b : Bool) (x y : A) → P x → P y → P (cond b x y)
@@ -91,40 +86,40 @@ new_numbers : (ids weights : List ℕ) → length ids ≡ length weights → len
 unfolding new
 new_numbers ids weights same few =
     rw (eq-eqb (length ids) (length weights) same, le-ltb PAIRS (length ids) few)
-    (either P (ltb most (total_of weights)) (set.refused 2) _ (omega arith, omega arith)
-    (either P (eqb (total_of weights) 0) (set.refused 3) _ (omega arith, omega arith)
-    (either P (ltb VOTERS (length (pairs.voters ids weights (length ids)))) (set.refused 4) _ (omega arith, omega arith) tt)))
+    (either P (ltb most (total_of weights)) (set.refused WeightOverflow) _ (omega arith, omega arith)
+    (either P (eqb (total_of weights) 0) (set.refused NoWeight) _ (omega arith, omega arith)
+    (either P (ltb VOTERS (length (pairs.voters ids weights (length ids)))) (set.refused TooManyVoters) _ (omega arith, omega arith) tt)))
   where
-    P : NewVoterSet → Type 0
+    P : Result VoterSet Refusal → Type 0
     P x = OfSet x.answer
 
 -- a block: 5 to 8
-abbrev OfBlock : block.Answer → Type 0
-OfBlock (answer.Placed k) = Unit {0}
-OfBlock (answer.Refused n) = (5 ≤ n) × (n ≤ 8)
+abbrev OfBlock : Result ℕ Refusal → Type 0
+OfBlock (Ok k) = Unit {0}
+OfBlock (Err n) = (5 ≤ n) × (n ≤ 8)
 
 step_numbers : (t : BlockTable) (id parent : ℕ) → OfBlock (step t id parent).answer
 unfolding step append
 step_numbers t id parent =
-    either P (contains t.ids t.count id) (refused t 5) _ (omega arith, omega arith) (under (place_of t.ids t.count parent))
+    either P (contains t.ids t.count id) (refused t KnownBlock) _ (omega arith, omega arith) (under (place_of t.ids t.count parent))
   where
     P : Added → Type 0
     P x = OfBlock x.answer
 
-    under : (o : Place) → P (on_place o (append t id) (refused t 6))
-    under Nothing = (omega arith, omega arith)
-    under (At k) =
-        either P (eqb (get_or t.numbers k 0) 4294967295) (refused t 7) _ (omega arith, omega arith)
-        (either P (eqb t.count BLOCKS) (refused t 8) (placed t id k) (omega arith, omega arith) tt)
+    under : (o : Option ℕ) → P (on_place o (append t id) (refused t UnknownParent))
+    under None = (omega arith, omega arith)
+    under (Some k) =
+        either P (eqb (get_or t.numbers k 0) 4294967295) (refused t NumberOverflow) _ (omega arith, omega arith)
+        (either P (eqb t.count BLOCKS) (refused t TableFull) (placed t id k) (omega arith, omega arith) tt)
 
 -- a vote: 11 to 13
-abbrev OfVote : ImportResult → Type 0
-OfVote (result.Refused n) = (11 ≤ n) × (n ≤ 13)
-OfVote result.Outside = Unit {0}
-OfVote result.Counted = Unit {0}
-OfVote result.Duplicated = Unit {0}
-OfVote (result.Equivocated e) = Unit {0}
-OfVote result.Ignored = Unit {0}
+abbrev OfVote : Result ImportResult Refusal → Type 0
+OfVote (Err n) = (11 ≤ n) × (n ≤ 13)
+OfVote (Ok result.Outside) = Unit {0}
+OfVote (Ok result.Counted) = Unit {0}
+OfVote (Ok result.Duplicated) = Unit {0}
+OfVote (Ok (result.Equivocated e)) = Unit {0}
+OfVote (Ok result.Ignored) = Unit {0}
 
 abbrev OfVerdict : Verdict → Type 0
 OfVerdict (verdict.Nothing a) = OfVote a
@@ -135,14 +130,14 @@ first_numbers : (ids numbers parents : List ℕ) (count base : ℕ) (v : VoterIn
 unfolding judge_first
 first_numbers ids numbers parents count base v p = at_place (place_of ids count p.target)
   where
-    at_place : (o : Place)
+    at_place : (o : Option ℕ)
         → OfVerdict (on_place o
-        (λ b. cond (eqb (col numbers b) p.number) (cond (below (col parents) base b) (verdict.First v b) (judging.refused 13)) (judging.refused 12))
-        (judging.refused 11))
-    at_place Nothing = (omega arith, omega arith)
-    at_place (At b) =
-        either OfVerdict (eqb (col numbers b) p.number) _ (judging.refused 12)
-        (either OfVerdict (below (col parents) base b) (verdict.First v b) (judging.refused 13) tt (omega arith, omega arith)) (omega arith, omega arith)
+        (λ b. cond (eqb (col numbers b) p.number) (cond (below (col parents) base b) (verdict.First v b) (judging.refused OffTheBase)) (judging.refused WrongNumber))
+        (judging.refused UnknownTarget))
+    at_place None = (omega arith, omega arith)
+    at_place (Some b) =
+        either OfVerdict (eqb (col numbers b) p.number) _ (judging.refused WrongNumber)
+        (either OfVerdict (below (col parents) base b) (verdict.First v b) (judging.refused OffTheBase) tt (omega arith, omega arith)) (omega arith, omega arith)
 
 rule_numbers : (a : AddVoteResult) (first : Verdict) (v : VoterInfo) → OfVerdict first → OfVerdict (by_rule a first v)
 rule_numbers added.Single first v h = h
@@ -150,9 +145,9 @@ rule_numbers added.Duplicated first v h = tt
 rule_numbers (added.Equivocated a) first v h = tt
 rule_numbers added.Ignored first v h = tt
 
-voter_numbers : (l : Lookup) (f : VoterInfo → Verdict) → ((v : VoterInfo) → OfVerdict (f v)) → OfVerdict (on_voter l f)
-voter_numbers (lookup.Voter v) f h = h v
-voter_numbers lookup.Outside f h = tt
+voter_numbers : (l : Option VoterInfo) (f : VoterInfo → Verdict) → ((v : VoterInfo) → OfVerdict (f v)) → OfVerdict (on_voter l f)
+voter_numbers (Some v) f h = h v
+voter_numbers None f h = tt
 
 import_numbers : (f : Frame) (phase : Phase) (signer : ℕ) (p : Pair) (h : Held) → OfVote (import f phase signer p h).answer
 unfolding import judge
@@ -168,14 +163,14 @@ import_numbers f phase signer p h =
     applied (verdict.Second v a) q = tt
 
 -- the records of the turns
-votes_numbers : (s : Voting) (a : ImportResult) → OfVote a
-    → Numbered (λ n. (11 ≤ n) × (n ≤ 13)) (on_next (vote.answered s a) (λ t. goes (voting t)) stops (stops 18))
-votes_numbers s (result.Refused n) q = q
-votes_numbers s result.Outside q = tt
-votes_numbers s result.Counted q = tt
-votes_numbers s result.Duplicated q = tt
-votes_numbers s (result.Equivocated e) q = tt
-votes_numbers s result.Ignored q = tt
+votes_numbers : (s : Voting) (a : Result ImportResult Refusal) → OfVote a
+    → Numbered (λ n. (11 ≤ n) × (n ≤ 13)) (on_next (vote.answered s a) (λ t. goes (voting t)) stops (stops OutOfTurn))
+votes_numbers s (Err n) q = q
+votes_numbers s (Ok result.Outside) q = tt
+votes_numbers s (Ok result.Counted) q = tt
+votes_numbers s (Ok result.Duplicated) q = tt
+votes_numbers s (Ok (result.Equivocated e)) q = tt
+votes_numbers s (Ok result.Ignored) q = tt
 
 rooted_numbers : (p : Pairs) → Paired (pairing p) → (fs : List ℕ) → Numbered (Own voters Rt) (rooted p fs)
 unfolding rooted
@@ -198,9 +193,9 @@ based_numbers : (v : VoterSet) (t : BlockTable) (fs : List ℕ) → Numbered (Ow
 unfolding based
 based_numbers v t fs = go (place_of t.ids t.count (word fs 8))
   where
-    go : (o : Place) → Numbered (Own blocks Op) (on_place o (λ b. goes (voting (opened_round (long fs 0) v t b))) (stops 10))
-    go (At b) = tt
-    go Nothing = refl
+    go : (o : Option ℕ) → Numbered (Own blocks Op) (on_place o (λ b. goes (voting (opened_round (long fs 0) v t b))) (stops UnknownBase))
+    go (Some b) = tt
+    go None = refl
 
 -- the number of a refused record is one of its own
 pub took_numbers : (j : Journal) → Paired j → (m : Mark) (fs : List ℕ) → Numbered (Own (part_of j) m) (took j m fs)
@@ -208,7 +203,7 @@ unfolding took paired grown voted counted growing.added
 took_numbers (pairing p) h Vt fs = go (leb PAIRS p.count)
   where
     go : (b : Bool)
-        → Numbered (Own voters Vt) (on_next (cond b (stops 1) (goes (with_pair p (word fs 0) (long fs 4)))) (λ q. goes (pairing q)) stops (rooted p fs))
+        → Numbered (Own voters Vt) (on_next (cond b (stops VoterList) (goes (with_pair p (word fs 0) (long fs 4)))) (λ q. goes (pairing q)) stops (rooted p fs))
     go true = refl
     go false = tt
 took_numbers (pairing p) h Rt fs = rooted_numbers p h fs
@@ -218,10 +213,10 @@ took_numbers (pairing p) h Pv fs = refl
 took_numbers (pairing p) h Pc fs = refl
 took_numbers (growing v t) h Bk fs = go (step t (word fs 0) (word fs 4)).answer (step_numbers t (word fs 0) (word fs 4))
   where
-    go : (a : block.Answer) → OfBlock a
+    go : (a : Result ℕ Refusal) → OfBlock a
         → Numbered (Own blocks Bk) (on_next (growing.answered (step t (word fs 0) (word fs 4)).table a) (λ u. goes (growing v u)) stops (based v t fs))
-    go (answer.Placed k) q = tt
-    go (answer.Refused n) q = q
+    go (Ok k) q = tt
+    go (Err n) q = q
 took_numbers (growing v t) h Op fs = based_numbers v t fs
 took_numbers (growing v t) h Vt fs = refl
 took_numbers (growing v t) h Rt fs = refl
@@ -229,11 +224,11 @@ took_numbers (growing v t) h Pv fs = refl
 took_numbers (growing v t) h Pc fs = refl
 took_numbers (voting r) h Bk fs = go (step r.frame.table (word fs 0) (word fs 4)).answer (step_numbers r.frame.table (word fs 0) (word fs 4))
   where
-    go : (a : block.Answer) → OfBlock a
+    go : (a : Result ℕ Refusal) → OfBlock a
         → Numbered (Own votes Bk)
-        (on_next (with_blocks r (growing.answered (step r.frame.table (word fs 0) (word fs 4)).table a)) (λ s. goes (voting s)) stops (stops 18))
-    go (answer.Placed k) q = tt
-    go (answer.Refused n) q = q
+        (on_next (with_blocks r (growing.answered (step r.frame.table (word fs 0) (word fs 4)).table a)) (λ s. goes (voting s)) stops (stops OutOfTurn))
+    go (Ok k) q = tt
+    go (Err n) q = q
 took_numbers (voting r) h Pv fs =
     votes_numbers _ (import r.frame Prevote (word fs 0) (pair_in fs) r.held).answer (import_numbers r.frame Prevote (word fs 0) (pair_in fs) r.held)
 took_numbers (voting r) h Pc fs =
@@ -269,7 +264,7 @@ pairs_sized : (p : Pairs) → Paired (pairing p) → (m : Mark) (fs : List ℕ) 
 unfolding paired
 pairs_sized p h Vt fs = go (leb PAIRS p.count) refl
   where
-    go : (b : Bool) → leb PAIRS p.count ≡ b → Then (λ (q : Pairs). Paired (pairing q)) (cond b (stops 1) (goes (with_pair p (word fs 0) (long fs 4))))
+    go : (b : Bool) → leb PAIRS p.count ≡ b → Then (λ (q : Pairs). Paired (pairing q)) (cond b (stops VoterList) (goes (with_pair p (word fs 0) (long fs 4))))
     go true e = tt
     go false e =
         (length-set p.ids p.count (word fs 0) ∙ h.0, length-set p.weights p.count (long fs 4) ∙ h.1, omega (arith, leb-false PAIRS p.count e))
@@ -291,9 +286,9 @@ based_paired : (v : VoterSet) (t : BlockTable) (fs : List ℕ) → Then Paired (
 unfolding based
 based_paired v t fs = go (place_of t.ids t.count (word fs 8))
   where
-    go : (o : Place) → Then Paired (on_place o (λ b. goes (voting (opened_round (long fs 0) v t b))) (stops 10))
-    go (At b) = tt
-    go Nothing = tt
+    go : (o : Option ℕ) → Then Paired (on_place o (λ b. goes (voting (opened_round (long fs 0) v t b))) (stops UnknownBase))
+    go (Some b) = tt
+    go None = tt
 
 took_paired : (j : Journal) → Paired j → (m : Mark) (fs : List ℕ) → Then Paired (took j m fs)
 unfolding took
@@ -301,7 +296,7 @@ took_paired (pairing p) h m fs = through_then Paired pairing (paired p m fs) (ro
 took_paired (growing v t) h m fs =
     through_then Paired (growing v) (grown t m fs) (based v t fs) (then_all (λ (u : BlockTable). Unit {0}) (λ u. tt) (grown t m fs)) (based_paired v t fs)
 took_paired (voting r) h m fs =
-    through_then Paired voting (voted r m fs) (stops 18) (then_all (λ (s : Voting). Unit {0}) (λ s. tt) (voted r m fs)) tt
+    through_then Paired voting (voted r m fs) (stops OutOfTurn) (then_all (λ (s : Voting). Unit {0}) (λ s. tt) (voted r m fs)) tt
 
 -- a record that a replay refuses: its number is one of its own
 pub refused_number : (es : List Entry) (e : Entry) (n : ℕ) → took (taken es).state e.mark e.fields ≡ stops n → Own (part_of (taken es).state) e.mark n
@@ -310,21 +305,21 @@ refused_number es e n q =
     subst (Numbered (Own (part_of (taken es).state) e.mark)) q (took_numbers (taken es).state h e.mark e.fields)
 
 -- 17: every whole record is taken, and an unknown mark follows
-pub only_unknown : (bs : List ℕ) → (replayed bs).stop ≡ stop.Refused 17 → ((taken (parsed bs)).end ≡ Cut) × (read (tail bs) ≡ is.Unknown)
+pub only_unknown : (bs : List ℕ) → (replayed bs).stop ≡ Err UnknownMark → ((taken (parsed bs)).end ≡ Cut) × (read (tail bs) ≡ is.Unknown)
 only_unknown bs = go (replayed bs) (replay_ends bs)
   where
-    go : (r : Replay) → Ends bs r → r.stop ≡ stop.Refused 17 → ((taken (parsed bs)).end ≡ Cut) × (read (tail bs) ≡ is.Unknown)
+    go : (r : Replay) → Ends bs r → r.stop ≡ Err UnknownMark → ((taken (parsed bs)).end ≡ Cut) × (read (tail bs) ≡ is.Unknown)
     go _ (at_end c e) s = absurd (let z : ◌≡◌ {A = ℕ} 0 1 = cc in omega arith)
     go _ (at_mark c e) s = (c, e)
     go _ (at_record es e later n p c q) s = let k : n ≡ 17 = cc in absurd ((own_means (part_of (taken es).state) e.mark n (refused_number es e n q)).0 k)
 
 -- 18: the records before one that is out of turn are taken
-pub only_out_of_turn : (bs : List ℕ) → (replayed bs).stop ≡ stop.Refused 18
+pub only_out_of_turn : (bs : List ℕ) → (replayed bs).stop ≡ Err OutOfTurn
     → (es : List Entry) × (e : Entry) × (later : List Entry) × (parsed bs ≡ es ++ (e ∷ later)) × ((taken es).end ≡ Cut)
     × (may (part_of (taken es).state) e.mark ≡ false)
 only_out_of_turn bs = go (replayed bs) (replay_ends bs)
   where
-    go : (r : Replay) → Ends bs r → r.stop ≡ stop.Refused 18
+    go : (r : Replay) → Ends bs r → r.stop ≡ Err OutOfTurn
         → (es : List Entry) × (e : Entry) × (later : List Entry) × (parsed bs ≡ es ++ (e ∷ later)) × ((taken es).end ≡ Cut)
         × (may (part_of (taken es).state) e.mark ≡ false)
     go _ (at_end c e) s = absurd (let z : ◌≡◌ {A = ℕ} 0 1 = cc in omega arith)

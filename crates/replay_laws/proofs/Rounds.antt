@@ -19,10 +19,6 @@ use Rattle.held_laws.specs.Reached.{Opens}
 use Rattle.held_laws.proofs.Keeps.{import_keeps}
 use Rattle.held_laws.proofs.Adds.{adding_keeps}
 use Rattle.round.specs.declared.Round.{Round}
-use Rattle.round.specs.declared.Done.TheVariants.{Yes}
-use Rattle.round.specs.declared.Kept as round
-use Rattle.round.specs.declared.Grown.{Grown}
-use Rattle.round.specs.declared.Imported.{Imported}
 use Rattle.round.specs.Shape.{shaped}
 use Rattle.round.specs.Calls.{opened, new, grown, add_block, imported, import_vote}
 use Rattle.round_laws.specs.Later.{Later, here, voted, added, Reached}
@@ -39,6 +35,11 @@ use Rattle.journal.specs.Journal as journal
 use Rattle.journal.specs.Journal.{round_of}
 use Rattle.journal.proofs.Laid.{held_of, laid_stands}
 use Rattle.replay_laws.proofs.Holds.{voted_by, through_then}
+use Rattle.std.specs.Prelude.{Ok, Result, ⊤}
+use Rattle.refusals.specs.declared.Refusal.TheVariants.{OutOfTurn}
+use Rattle.refusals.specs.declared.Refusal.{Refusal}
+use Rattle.round.specs.declared.After.{After}
+use Rattle.judging.specs.declared.ImportResult.{ImportResult}
 
 abbrev at : Frame → Held → Voting
 at f h = record { frame = f; held = h }
@@ -52,18 +53,18 @@ pub import_is : (v : Voting) → T (shaped (round_of v)) → (phase : Phase) (si
     → (import_vote phase signer p (round_of v)).round ≡ round_of (at v.frame (import v.frame phase signer p v.held).held)
 unfolding import_vote imported round_of
 import_is v t phase signer p =
-    on_true (λ (x : Imported). x.round ≡ round_of (at v.frame (import v.frame phase signer p v.held).held)) (shaped (round_of v))
+    on_true (λ (x : After (Result ImportResult Refusal)). x.round ≡ round_of (at v.frame (import v.frame phase signer p v.held).held)) (shaped (round_of v))
     (imported phase signer p (round_of v)) _ t (ap (λ (h : Held). round_of (at v.frame (import v.frame phase signer p h).held)) (held_of v))
 
 pub add_is : (v : Voting) → T (shaped (round_of v)) → (id parent : ℕ)
     → (add_block id parent (round_of v)).round ≡ round_of (at (with_table v.frame (step v.frame.table id parent).table) v.held)
 unfolding add_block round_of
 add_is v t id parent =
-    on_true (λ (x : Grown). x.round ≡ round_of (at (with_table v.frame (step v.frame.table id parent).table) v.held)) (shaped (round_of v))
+    on_true (λ (x : After (Result ℕ Refusal)). x.round ≡ round_of (at (with_table v.frame (step v.frame.table id parent).table) v.held)) (shaped (round_of v))
     (grown (round_of v) (step v.frame.table id parent)) _ t refl
 
 pub new_is : (f : Frame) → Opens f
-    → new f.number f.voters f.table (get_or f.table.ids f.base 0) ≡ record { answer = Yes; round = round_of (at f (opened_held f.base)) }
+    → new f.number f.voters f.table (get_or f.table.ids f.base 0) ≡ record { answer = Ok tt; round = round_of (at f (opened_held f.base)) }
 unfolding new opened round_of
 new_is f o =
     rw (
@@ -98,8 +99,8 @@ opens_reached f o =
       table = f.table;
       base = get_or f.table.ids f.base 0;
       fits = o.fits;
-      opens = ap (λ (x : round.Kept). x.answer) (new_is f o);
-      calls = subst (λ (r : Round). Later r (round_of (at f (opened_held f.base)))) (sym (ap (λ (x : round.Kept). x.round) (new_is f o))) here;
+      opens = ap (λ (x : After (Result ⊤ Refusal)). x.answer) (new_is f o);
+      calls = subst (λ (r : Round). Later r (round_of (at f (opened_held f.base)))) (sym (ap (λ (x : After (Result ⊤ Refusal)). x.round) (new_is f o))) here;
     }
 
 import_reached : (f : Frame) (h : Held) → RoundReached f h → (phase : Phase) (signer : ℕ) (p : Pair) → RoundReached f (import f phase signer p h).held
@@ -128,7 +129,7 @@ unfolding took
 took_since v (pairing p) s m fs = absurd s
 took_since v (growing u t) s m fs = absurd s
 took_since v (voting w) s m fs =
-    through_then (Since v) voting (vote.voted w m fs) (stops 18) (on_from (vote.voted w m fs) (voted_later w s.1 m fs)) tt
+    through_then (Since v) voting (vote.voted w m fs) (stops OutOfTurn) (on_from (vote.voted w m fs) (voted_later w s.1 m fs)) tt
   where
     on_from : (n : Next Voting) → Then (λ (x : Voting). Later (round_of w) (round_of x) × Kept x.frame x.held) n → Then (λ (x : Voting). Since v (voting x)) n
     on_from (goes x) q = (later_on (round_of v) (round_of w) (round_of x) s.0 q.0, q.1)

@@ -1,4 +1,4 @@
--- A record out of turn is refused with 18 whatever its fields are, and the records that a replay takes come in their turn.
+-- A record out of turn is refused with OutOfTurn whatever its fields are, and the records that a replay takes come in their turn.
 use mathlib.Core.Bool.{Bool, true, false, cond}
 use mathlib.Core.List.{List, [], ◌∷◌}
 use mathlib.Core.Path.{◌≡◌, refl, sym, ap, subst, ◌∙◌}
@@ -13,10 +13,6 @@ use Rattle.voter_set.specs.declared.Answer.{Answer}
 use Rattle.voter_set.specs.declared.Answer.TheVariants.{Made, Refused}
 use Rattle.voter_set.specs.Voters.{new}
 use Rattle.blocks.specs.declared.BlockTable.{BlockTable}
-use Rattle.blocks.specs.declared.Answer as block
-use Rattle.blocks.specs.declared.Answer.TheVariants as answer
-use Rattle.blocks.specs.declared.Place.{Place}
-use Rattle.blocks.specs.declared.Place.TheVariants.{At, Nothing}
 use Rattle.blocks.specs.Add.{place_of, on_place}
 use Rattle.block_table.specs.Add.{opened}
 use Rattle.marks.specs.declared.Mark.{Mark}
@@ -36,9 +32,12 @@ use Rattle.replay_laws.specs.Ends.{taken}
 use Rattle.replay_laws.specs.Turned.{Part, voters, blocks, votes, part_of, may, next, InTurn}
 use Rattle.replay_laws.proofs.Holds.{then_all, through_then}
 use Rattle.replay_laws.proofs.Ends.{first_goes, first_stops, first_leaves}
+use Rattle.std.specs.Prelude.{Option, Some, None, Result, Ok, Err}
+use Rattle.refusals.specs.declared.Refusal.{Refusal}
+use Rattle.refusals.specs.declared.Refusal.TheVariants.{OutOfTurn, UnknownBase, VoterList}
 
 -- 18, before anything of the record's own
-pub out_of_turn : (j : Journal) (m : Mark) (fs : List ℕ) → may (part_of j) m ≡ false → took j m fs ≡ stops 18
+pub out_of_turn : (j : Journal) (m : Mark) (fs : List ℕ) → may (part_of j) m ≡ false → took j m fs ≡ stops OutOfTurn
 unfolding took paired grown voted
 out_of_turn (pairing p) Bk fs e = refl
 out_of_turn (pairing p) Op fs e = refl
@@ -75,20 +74,20 @@ based_part : (v : VoterSet) (t : BlockTable) (fs : List ℕ) → Then (GoesTo vo
 unfolding based
 based_part v t fs = go (place_of t.ids t.count (word fs 8))
   where
-    go : (o : Place) → Then (GoesTo votes) (on_place o (λ b. goes (voting (opened_round (long fs 0) v t b))) (stops 10))
-    go (At b) = refl
-    go Nothing = tt
+    go : (o : Option ℕ) → Then (GoesTo votes) (on_place o (λ b. goes (voting (opened_round (long fs 0) v t b))) (stops UnknownBase))
+    go (Some b) = refl
+    go None = tt
 
-votes_part : (r : Voting) (m : Mark) (fs : List ℕ) → Then (GoesTo votes) (on_next (voted r m fs) (λ s. goes (voting s)) stops (stops 18))
+votes_part : (r : Voting) (m : Mark) (fs : List ℕ) → Then (GoesTo votes) (on_next (voted r m fs) (λ s. goes (voting s)) stops (stops OutOfTurn))
 votes_part r m fs =
-    through_then (GoesTo votes) voting (voted r m fs) (stops 18) (then_all (λ (s : Voting). GoesTo votes (voting s)) (λ s. refl) (voted r m fs)) tt
+    through_then (GoesTo votes) voting (voted r m fs) (stops OutOfTurn) (then_all (λ (s : Voting). GoesTo votes (voting s)) (λ s. refl) (voted r m fs)) tt
 
 took_next : (j : Journal) (m : Mark) (fs : List ℕ) → Then (GoesTo (next (part_of j) m)) (took j m fs)
 unfolding took paired grown voted
 took_next (pairing p) Vt fs = go (leb PAIRS p.count)
   where
     go : (b : Bool)
-        → Then (GoesTo voters) (on_next (cond b (stops 1) (goes (with_pair p (word fs 0) (long fs 4)))) (λ q. goes (pairing q)) stops (rooted p fs))
+        → Then (GoesTo voters) (on_next (cond b (stops VoterList) (goes (with_pair p (word fs 0) (long fs 4)))) (λ q. goes (pairing q)) stops (rooted p fs))
     go true = tt
     go false = refl
 took_next (pairing p) Rt fs = rooted_part p fs
@@ -98,9 +97,9 @@ took_next (pairing p) Pv fs = tt
 took_next (pairing p) Pc fs = tt
 took_next (growing v t) Bk fs = go (added t fs).answer
   where
-    go : (a : block.Answer) → Then (GoesTo blocks) (on_next (answered (added t fs).table a) (λ u. goes (growing v u)) stops (based v t fs))
-    go (answer.Placed k) = refl
-    go (answer.Refused n) = tt
+    go : (a : Result ℕ Refusal) → Then (GoesTo blocks) (on_next (answered (added t fs).table a) (λ u. goes (growing v u)) stops (based v t fs))
+    go (Ok k) = refl
+    go (Err n) = tt
 took_next (growing v t) Op fs = based_part v t fs
 took_next (growing v t) Vt fs = tt
 took_next (growing v t) Rt fs = tt

@@ -14,7 +14,6 @@ use Rattle.importing.specs.Import.{import}
 use Rattle.records.specs.Bytes.{little, vote_bytes}
 use Rattle.records.proofs.Bytes.{length_vote, number_back}
 use Rattle.listing.specs.Written.{phase_of, voter_of, pair_of, record_of, in_a_row}
-use Rattle.marks.specs.declared.Named.TheVariants as name
 use Rattle.marks.specs.declared.Record.TheVariants as is
 use Rattle.marks.specs.Marks.{named, size, read, fields, after, word, long}
 use Rattle.marks.proofs.Readings.{mark_at, read_whole}
@@ -24,6 +23,7 @@ use Rattle.runs.specs.Parsed.{Entry, parsed}
 use Rattle.runs.proofs.Parses.{parsed_whole}
 use Rattle.voting.specs.Voting.{Voting, pair_in, answered, counted, voted}
 use Rattle.replay_laws.specs.Marked.{mark_of}
+use Rattle.std.specs.Prelude.{Some}
 
 -- the record of a vote
 abbrev pub vote_entry : Phase → ℕ → Pair → Entry
@@ -35,11 +35,11 @@ vote_counted r Prevote fs = refl
 vote_counted r Precommit fs = refl
 
 module _ (phase : Phase) (voter : ℕ) (pair : Pair) where
-  vote_named : named (mark_at (vote_bytes phase voter pair)) ≡ name.Known (mark_of phase)
+  vote_named : named (mark_at (vote_bytes phase voter pair)) ≡ Some (mark_of phase)
   unfolding vote_bytes named
   vote_named = go phase
     where
-      go : (f : Phase) → named (mark_at (vote_bytes f voter pair)) ≡ name.Known (mark_of f)
+      go : (f : Phase) → named (mark_at (vote_bytes f voter pair)) ≡ Some (mark_of f)
       go Prevote = refl
       go Precommit = refl
 

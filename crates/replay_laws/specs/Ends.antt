@@ -1,6 +1,6 @@
 -- How a replay ends. Document 01, "The journal": records are taken in order; it stops at the first refusal, K counting records from 1; an
 -- unknown mark is judged at its two bytes, all else when the record is whole; the tail is the bytes after the last whole record.
-use Rattle.std.specs.Prelude.{List, [], ◌∷◌, ◌++◌, ◌≡◌, ℕ, length}
+use Rattle.std.specs.Prelude.{List, [], ◌∷◌, ◌++◌, ◌≡◌, ℕ, length, Ok, Err}
 use Rattle.weights.specs.Weights.{plus}
 use Rattle.marks.specs.declared.Record.TheVariants as is
 use Rattle.marks.specs.declared.End.TheVariants.{Cut}
@@ -10,7 +10,6 @@ use Rattle.runs.specs.Parsed.{Entry, parsed, tail, Folded, folded}
 use Rattle.turns.specs.Turns.{Journal, pairing, took, no_pairs}
 use Rattle.journal.specs.Journal.{laid}
 use Rattle.feeding.specs.declared.Replay.{Replay}
-use Rattle.feeding.specs.declared.Stop.TheVariants.{Open, Refused}
 use Rattle.feeding.specs.Feeding.{kept_rest}
 
 -- some records, taken in order from the start
@@ -19,11 +18,11 @@ taken es = folded took (pairing no_pairs) es
 
 -- their state, their number up to the greatest u64, and the bytes after them
 abbrev pub open_after : List Entry → List ℕ → Replay
-open_after es rest = record { journal = laid (taken es).state; rest = kept_rest rest; records = plus 0 (length es); stop = Open }
+open_after es rest = record { journal = laid (taken es).state; rest = kept_rest rest; records = plus 0 (length es); stop = Ok tt }
 
 -- the same, stopped: what is refused is the one after them
 abbrev pub stopped_after : List Entry → ℕ → Replay
-stopped_after es n = record { journal = laid (taken es).state; rest = kept_rest []; records = plus 0 (length es); stop = Refused n }
+stopped_after es n = record { journal = laid (taken es).state; rest = kept_rest []; records = plus 0 (length es); stop = Err n }
 
 pub data Ends (bs : List ℕ) : Replay → Type 0 where
   -- every whole record is taken, and a record that is not whole may follow

@@ -8,29 +8,29 @@ use borrow.Author.Tests.{lt-ltb, le-ltb}
 use lib.ListN.{length, take, drop, length-append}
 use lib.Seq.{take_at, take-length}
 use Rattle.weights.specs.Weights.{plus}
-use Rattle.listing.specs.declared.Written.TheVariants as answer
 use Rattle.listing.specs.Written.{Lent}
 use Rattle.journal.specs.declared.Turn.TheVariants.{Voters, Blocks, Votes}
-use Rattle.feeding.specs.declared.Stop.TheVariants.{Open, Refused}
 use Rattle.feeding.specs.declared.Replay.{Replay}
 use Rattle.feeding.specs.Feeding.{stands}
 use Rattle.lines.specs.Lines as text
 use Rattle.report.specs.Report.{lines_by, lines_of, refused, printed}
+use Rattle.std.specs.Prelude.{Ok, Err}
+use Rattle.refusals.specs.declared.Refusal.TheVariants.{ShortBuffer}
 
 module _ (r : Replay) where
-  pub lines_stopped : (n : ℕ) → r.stop ≡ Refused n → lines_of r ≡ text.refused n (plus r.records 1)
+  pub lines_stopped : (n : ℕ) → r.stop ≡ Err n → lines_of r ≡ text.refused n (plus r.records 1)
   unfolding lines_of
   lines_stopped n e = ap (λ s. lines_by s r.journal.turn r) e
 
-  pub lines_round : r.stop ≡ Open → r.journal.turn ≡ Votes → lines_of r ≡ text.round_lines r.journal.round r.rest.count
+  pub lines_round : r.stop ≡ Ok tt → r.journal.turn ≡ Votes → lines_of r ≡ text.round_lines r.journal.round r.rest.count
   unfolding lines_of
   lines_round e f = λ i. lines_by (e i) (f i) r
 
-  pub lines_blocks : r.stop ≡ Open → r.journal.turn ≡ Blocks → lines_of r ≡ text.no_round r.rest.count
+  pub lines_blocks : r.stop ≡ Ok tt → r.journal.turn ≡ Blocks → lines_of r ≡ text.no_round r.rest.count
   unfolding lines_of
   lines_blocks e f = λ i. lines_by (e i) (f i) r
 
-  pub lines_voters : r.stop ≡ Open → r.journal.turn ≡ Voters → lines_of r ≡ text.no_round r.rest.count
+  pub lines_voters : r.stop ≡ Ok tt → r.journal.turn ≡ Voters → lines_of r ≡ text.no_round r.rest.count
   unfolding lines_of
   lines_voters e f = λ i. lines_by (e i) (f i) r
 
@@ -49,15 +49,15 @@ module _ (t old new : List ℕ) (n : ℕ) (e : new ≡ t ++ drop (length t) old)
   copy_fits out h = omega (arith, ap length is_text)
 
 module _ (r : Replay) (passes : stands r ≡ true) (out : List ℕ) (n : ℕ) (f : n ≡ length (lines_of r)) where
-  pub print_short : length out < n → refused 14 out ≡ printed r out
+  pub print_short : length out < n → refused ShortBuffer out ≡ printed r out
   unfolding printed
   print_short h = rw (passes, lt-ltb (length out) (length (lines_of r)) (omega arith))
 
   pub print_done : n ≤ length out → (old new : List ℕ) → new ≡ lines_of r ++ drop (length (lines_of r)) old → (after : List ℕ)
-      → after ≡ take n new ++ drop (length (take n new)) out → record { answer = answer.Bytes n; bytes = after } ≡ printed r out
+      → after ≡ take n new ++ drop (length (take n new)) out → record { answer = Ok n; bytes = after } ≡ printed r out
   unfolding printed
   print_done h old new e after g =
-      rw (passes, le-ltb (length out) (length (lines_of r)) (omega arith)) (λ i. record { answer = answer.Bytes (f i); bytes = bytes_are i })
+      rw (passes, le-ltb (length out) (length (lines_of r)) (omega arith)) (λ i. record { answer = Ok (f i); bytes = bytes_are i })
     where
       bytes_are : after ≡ lines_of r ++ drop (length (lines_of r)) out
       bytes_are =

@@ -6,9 +6,9 @@ ghost use Rattle.weights.specs.Weights.{plus};
 ghost use Rattle.listing.specs.Written.{Lent};
 ghost use Rattle.report.specs.Report.{lines_of, printed};
 
-use feeding::{Replay, Stop};
+use feeding::Replay;
 use journal::Turn;
-use listing::Written;
+use refusals::Refusal;
 
 // The number of the record after those taken.
 fn next(records: u64) -> u64
@@ -28,8 +28,8 @@ fn put(replay: Replay, out: &mut [u8; 512]) -> usize
     let journal = replay.journal;
     let turn = journal.turn;
     match stop {
-        Stop::Refused(number) => lines::put_refused(out, number, next(replay.records)),
-        Stop::Open => match turn {
+        Err(refusal) => lines::put_refused(out, refusal, next(replay.records)),
+        Ok(()) => match turn {
             Turn::Votes => lines::put_round(out, journal.round, rest.count),
             Turn::Blocks => lines::put_no_round(out, rest.count),
             Turn::Voters => lines::put_no_round(out, rest.count),
@@ -38,17 +38,17 @@ fn put(replay: Replay, out: &mut [u8; 512]) -> usize
 }
 
 // The lines from the start of a lent buffer; the bytes after them stay.
-pub fn print(replay: Replay, out: &mut [u8]) -> Written
+pub fn print(replay: Replay, out: &mut [u8]) -> Result<usize, Refusal>
     ensures { ◌≡◌ {A = Lent} (record { answer = result; bytes = out.new }) (printed replay out.old) }
 {
     if !replay.is_replay() {
-        return Written::Refused(9);
+        return Err(Refusal::Misshapen);
     }
     let mut text = [0u8; 512];
     let size = put(replay, &mut text);
     if out.len() < size {
-        return Written::Refused(14);
+        return Err(Refusal::ShortBuffer);
     }
     spans::copy(&text[..size], out);
-    Written::Bytes(size)
+    Ok(size)
 }

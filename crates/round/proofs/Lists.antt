@@ -9,7 +9,6 @@ use lib.ListN.{get_or}
 use Rattle.sizes.specs.Sizes.{HISTORY}
 use Rattle.loops.specs.Listing.{times, front, keep}
 use Rattle.loops.proofs.Listings.{kept_in}
-use Rattle.nodes.specs.declared.Found.TheVariants.{At}
 use Rattle.graph_shape.proofs.Marks.{in_front}
 use Rattle.entry_lists.specs.declared.Entries.{Entries}
 use Rattle.entry_lists.specs.Entries.{Fit, entered}
@@ -23,6 +22,7 @@ use Rattle.round.specs.declared.Round.{Round}
 use Rattle.round.specs.Shape.{shaped}
 use Rattle.round.specs.Ask.{records, entries_of, listed, finalizing, finalizing_precommits}
 use Rattle.round.proofs.Steps.{few_voters}
+use Rattle.std.specs.Prelude.{Some}
 
 module _ (r : Round) (w : Wanted) (m : Entries)
     (e : m ≡ entered (keep (wants r.votes.counts r.votes.first_block r.table.parents w) (by_voter (phase_in w) r.context.voters.count))) where
@@ -48,7 +48,7 @@ module _ (r : Round) (w : Wanted) (m : Entries)
       q ∙ ap (λ (es : List ℕ). records es r.context.voters r.table r.votes out) (entered_front m _ e)
 
 -- where a block is finalized
-pub finalizing_done : (r : Round) (b : ℕ) (x : Lent) (out : List ℕ) → shaped r ≡ true → r.answers.finalized ≡ At b
+pub finalizing_done : (r : Round) (b : ℕ) (x : Lent) (out : List ℕ) → shaped r ≡ true → r.answers.finalized ≡ Some b
     → x ≡ listed (Finalizing b) r out → x ≡ finalizing_precommits r out
 unfolding finalizing_precommits
 finalizing_done r b x out s q p = rw s (p ∙ sym (ap (finalizing r out) q))

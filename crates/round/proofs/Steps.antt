@@ -16,8 +16,6 @@ use Rattle.voter_laws.proofs.Goods.{good_means}
 use Rattle.blocks.specs.Table.{Stands}
 use Rattle.context.specs.declared.Phase.{Phase}
 use Rattle.context.specs.declared.Phase.TheVariants.{Prevote, Precommit}
-use Rattle.nodes.specs.declared.Found.{Found}
-use Rattle.nodes.specs.declared.Found.TheVariants.{At, Nothing}
 use Rattle.nodes.specs.Nodes.{col, row, Falls}
 use Rattle.graph_rows.specs.declared.Row.{Row}
 use Rattle.graph_rows.specs.Rows.{words_of, rows_of}
@@ -38,9 +36,12 @@ use Rattle.judging.specs.declared.Verdict.TheVariants as verdicts
 use Rattle.importing.specs.Import.{Frame, Held, Lengths, Taken, Ready, scene, verdict, apply, import}
 use Rattle.importing.proofs.Turns.{first_grounded}
 use Rattle.round.specs.declared.Round.{Round}
-use Rattle.round.specs.declared.Imported.{Imported}
 use Rattle.round.specs.Shape.{frame, held_lent, held, sized, index_fits, tells_votes, shaped}
 use Rattle.round.specs.Calls.{made, imported, sought}
+use Rattle.std.specs.Prelude.{Option, Some, None, Result}
+use Rattle.refusals.specs.declared.Refusal.{Refusal}
+use Rattle.round.specs.declared.After.{After}
+use Rattle.judging.specs.declared.ImportResult.{ImportResult}
 
 module _ (r : Round) where
   pub says_sized : Lengths (held r) → sized (held r) ≡ true
@@ -132,9 +133,9 @@ module _ (r : Round) where
         voted_means _ _ _ _ _ _ _ _ _ s.wide graph_kept.sound.sized.used_size graph_kept.sound.sized.row_size s.words s.entries_size
         (true_T _ passed.3)
 
-    stored_in : (o : Found) → T (stored r.table.parents r.table.count r.graph.base o) → InBase r.table.parents r.graph.base o
-    stored_in Nothing h = tt
-    stored_in (At b) h = right_of (ltb b r.table.count) _ h
+    stored_in : (o : Option ℕ) → T (stored r.table.parents r.table.count r.graph.base o) → InBase r.table.parents r.graph.base o
+    stored_in None h = tt
+    stored_in (Some b) h = right_of (ltb b r.table.count) _ h
 
     pub prevote_in : InBase r.table.parents r.graph.base r.answers.prevote
     unfolding all_stored
@@ -179,7 +180,7 @@ module _ (r : Round) (t : T (shaped r)) (w : List (List ℕ)) (e : w ≡ words_o
 
   pub import_done : (phase : Phase) (signer : ℕ) (p : Pair) (x : Taken) → x ≡ import (frame r) phase signer p (held_lent r w)
       → (rows : List Row) → rows ≡ rows_of x.held.graph.rows
-      → ◌≡◌ {A = Imported}
+      → ◌≡◌ {A = After (Result ImportResult Refusal)}
       (record {
         answer = x.answer;
         round = made (frame r) x.held rows r.history.prevoted r.history.precommitted;
@@ -188,7 +189,7 @@ module _ (r : Round) (t : T (shaped r)) (w : List (List ℕ)) (e : w ≡ words_o
   unfolding imported
   import_done phase signer p x q rows i = rw (i, q, e)
 
-  pub sought_done : (o : Found)
+  pub sought_done : (o : Option ℕ)
       → o ≡ phase_ghost (scene (frame r) (held_lent r w)) Precommit r.heard.precommit r.answers.precommit → o ≡ sought r
   unfolding sought
   sought_done o q = rw e at q

@@ -1,6 +1,6 @@
 -- A round by value and its shape. Document 01, "Shape rules", and no others; "Refusal numbers" 9. The stored four answers are not
 -- tested against the votes.
-use Rattle.std.specs.Prelude.{Bool, true, ◌&&◌, List, ℕ, eqb, leb, length}
+use Rattle.std.specs.Prelude.{Bool, true, ◌&&◌, List, ℕ, eqb, leb, length, Option, Some, None}
 use Rattle.sizes.specs.Sizes.{WORDS, VOTES, HISTORY}
 use Rattle.voter_set.specs.Good.{good}
 use Rattle.nodes.specs.Nodes.{row}
@@ -10,8 +10,6 @@ use Rattle.vote_shape.specs.Voted.{voted}
 use Rattle.answer_shape.specs.Stored.{all_stored, weighed}
 use Rattle.importing.specs.declared.Standing.{Standing}
 use Rattle.importing.specs.Import.{Frame, framed, Held, held_with}
-use Rattle.round.specs.declared.Index.{Index}
-use Rattle.round.specs.declared.Index.TheVariants.{At, Nothing}
 use Rattle.round.specs.declared.Round.{Round}
 
 -- what no vote changes, and what a vote may change
@@ -48,9 +46,9 @@ sized h =
     && (eqb (length h.votes.second_signature) VOTES && (eqb (length h.entries) HISTORY && eqb (length h.equivocations) WORDS))))))
 
 -- counts within sizes: history has at most HISTORY entries
-abbrev pub index_fits : Index → Bool
-index_fits (At n) = leb n HISTORY
-index_fits Nothing = true
+abbrev pub index_fits : Option ℕ → Bool
+index_fits (Some n) = leb n HISTORY
+index_fits None = true
 
 -- the recorded votes, and what is kept beside them, as document 01 lists it
 unfoldable pub tells_votes : Frame → Held → Bool

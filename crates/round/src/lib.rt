@@ -12,36 +12,29 @@ ghost use Rattle.vote_shape.specs.Voted.{voted};
 ghost use Rattle.tracker.specs.Votes.{Wide};
 ghost use Rattle.context.specs.declared.Phase.TheVariants.{Prevote, Precommit};
 ghost use Rattle.round.specs.Shape.{index_fits, shaped};
-ghost use Rattle.round.specs.Ask.{records, listed, votes_of, historical_votes, finalizing_precommits, primary_of, heard_in, prevote_participation, precommit_participation, primary_voter, state, voters, index_number, number, threshold, prevoted_index, precommitted_index, completable, estimate, finalized, base};
+ghost use Rattle.round.specs.Ask.{records, listed, votes_of, historical_votes, finalizing_precommits, heard_in, prevote_participation, precommit_participation, primary_voter, state, voters, tested, number, threshold, prevoted_index, precommitted_index, completable, estimate, finalized, base};
 ghost use Rattle.round.specs.Calls.{opened, nobody, no_blocks, new, add_block, imported, import_vote, sought, with_sought, precommit_ghost, marked, set_index, block_of};
 
 use answers::{Answers, Heard};
-use blocks::{Answer, BlockTable, Place};
+use blocks::BlockTable;
 use context::{Context, Phase};
 use importing::Standing;
 use judging::ImportResult;
-use listing::{Wanted, Written};
-use nodes::Found;
+use listing::Wanted;
+use refusals::Refusal;
 use sizes::{BLOCKS, HISTORY, VOTERS, WORDS};
 use tracker::{Pair, Votes};
 use vote_graph::VoteGraph;
 use voter_info::VoterInfo;
-use voter_set::{Nth, VoterSet};
-
-// How many votes had been seen when this desk voted itself.
-#[derive(Clone, Copy)]
-pub enum Index {
-    At(u64),
-    Nothing,
-}
+use voter_set::VoterSet;
 
 // `HistoricalVotes`: recorded votes in arrival order, as entries.
 #[derive(Clone, Copy)]
 pub struct History {
     pub entries: [u16; HISTORY],
     pub count: usize,
-    pub prevoted: Index,
-    pub precommitted: Index,
+    pub prevoted: Option<u64>,
+    pub precommitted: Option<u64>,
 }
 
 // The fields are public, so that a state can be stored and handed in again: `is_round` tells a state that keeps the shape rules.
@@ -57,94 +50,20 @@ pub struct Round {
     pub answers: Answers,
 }
 
-// Done, or the number of the refusal.
+// An answer, and the round after the call.
 #[derive(Clone, Copy)]
-pub enum Done {
-    Yes,
-    Refused(u8),
-}
-
-// The answer and the round beside it: an enum holds no array.
-#[derive(Clone, Copy)]
-pub struct Kept {
-    pub answer: Done,
+pub struct After<A> {
+    pub answer: A,
     pub round: Round,
-}
-
-#[derive(Clone, Copy)]
-pub struct Grown {
-    pub answer: Answer,
-    pub round: Round,
-}
-
-#[derive(Clone, Copy)]
-pub struct Imported {
-    pub answer: ImportResult,
-    pub round: Round,
-}
-
-// A block by id and number.
-#[derive(Clone, Copy)]
-pub enum Told {
-    Block(u32, u32),
-    Nothing,
-    Refused(u8),
-}
-
-#[derive(Clone, Copy)]
-pub struct Asked {
-    pub answer: Told,
-    pub round: Round,
-}
-
-// A number that may be absent.
-#[derive(Clone, Copy)]
-pub enum Number {
-    Is(u64),
-    Nothing,
-    Refused(u8),
-}
-
-#[derive(Clone, Copy)]
-pub enum Whether {
-    Yes,
-    No,
-    Refused(u8),
-}
-
-// The weight heard in a phase, and how many voters.
-#[derive(Clone, Copy)]
-pub enum Participation {
-    Heard(u64, u32),
-    Refused(u8),
-}
-
-#[derive(Clone, Copy)]
-pub enum Primary {
-    Voter(u32, VoterInfo),
-    Nothing,
-    Refused(u8),
 }
 
 // `State` of round.rs.
 #[derive(Clone, Copy)]
 pub struct State {
-    pub prevote: Told,
-    pub finalized: Told,
-    pub estimate: Told,
+    pub prevote: Option<(u32, u32)>,
+    pub finalized: Option<(u32, u32)>,
+    pub estimate: Option<(u32, u32)>,
     pub completable: bool,
-}
-
-#[derive(Clone, Copy)]
-pub enum Answered {
-    Is(State),
-    Refused(u8),
-}
-
-#[derive(Clone, Copy)]
-pub struct Voters {
-    pub answer: Done,
-    pub voters: VoterSet,
 }
 
 pub fn opened(number: u64, voters: VoterSet, table: BlockTable, base: u8) -> Round
@@ -166,8 +85,8 @@ pub fn opened(number: u64, voters: VoterSet, table: BlockTable, base: u8) -> Rou
         history: History {
             entries: [0u16; HISTORY],
             count: 0,
-            prevoted: Index::Nothing,
-            precommitted: Index::Nothing,
+            prevoted: None,
+            precommitted: None,
         },
         heard,
         answers: stored,
@@ -229,42 +148,28 @@ fn are_told<'a>(
     )
 }
 
-fn index_fits(index: Index) -> bool
+fn index_fits(index: Option<u64>) -> bool
     ensures { result ≡ index_fits index }
 {
     match index {
-        Index::At(seen) => seen <= HISTORY as u64,
-        Index::Nothing => true,
+        Some(seen) => seen <= HISTORY as u64,
+        None => true,
     }
 }
 
-pub fn block_of<'a>(ids: &'a [u32; BLOCKS], numbers: &'a [u32; BLOCKS], found: Found) -> Told
+pub fn block_of<'a>(
+    ids: &'a [u32; BLOCKS],
+    numbers: &'a [u32; BLOCKS],
+    found: Option<u8>,
+) -> Option<(u32, u32)>
     ensures { result ≡ block_of ids.now numbers.now found }
 {
     match found {
-        Found::At(block) => {
+        Some(block) => {
             let at = climbs::wide(block);
-            Told::Block(ids[at], numbers[at])
+            Some((ids[at], numbers[at]))
         }
-        Found::Nothing => Told::Nothing,
-    }
-}
-
-fn index_number(index: Index) -> Number
-    ensures { result ≡ index_number index }
-{
-    match index {
-        Index::At(seen) => Number::Is(seen),
-        Index::Nothing => Number::Nothing,
-    }
-}
-
-fn primary_of(nth: Nth) -> Primary
-    ensures { result ≡ primary_of nth }
-{
-    match nth {
-        Nth::Place(id, info) => Primary::Voter(id, info),
-        Nth::Beyond => Primary::Nothing,
+        None => None,
     }
 }
 
@@ -286,7 +191,7 @@ fn records(
     table: BlockTable,
     votes: Votes,
     out: &mut [u8],
-) -> Written
+) -> Result<usize, Refusal>
     requires { (count ≤ HISTORY) × Fit entries count }
     ensures { ◌≡◌ {A = Lent} (record { answer = result; bytes = out.new }) (records (front count entries) voters table votes out.old) }
 {
@@ -312,7 +217,7 @@ fn marked(history: History, phase: Phase) -> History
     let entries = history.entries;
     let prevoted = history.prevoted;
     let precommitted = history.precommitted;
-    let seen = Index::At(history.count as u64);
+    let seen = Some(history.count as u64);
     match phase {
         Phase::Prevote => History {
             entries,
@@ -331,29 +236,34 @@ fn marked(history: History, phase: Phase) -> History
 
 impl Round {
     // A round on a base with no votes. Beside a refusal stands a round without blocks, which every call refuses.
-    pub fn new(number: u64, voters: VoterSet, table: BlockTable, base: u32) -> Kept
+    pub fn new(
+        number: u64,
+        voters: VoterSet,
+        table: BlockTable,
+        base: u32,
+    ) -> After<Result<(), Refusal>>
         ensures { result ≡ new number voters table base }
     {
         if !voters.is_good() {
-            return Kept {
-                answer: Done::Refused(9),
+            return After {
+                answer: Err(Refusal::Misshapen),
                 round: opened(0, nobody(), no_blocks(), 0),
             };
         }
         if !block_table::is_table(table) {
-            return Kept {
-                answer: Done::Refused(9),
+            return After {
+                answer: Err(Refusal::Misshapen),
                 round: opened(0, nobody(), no_blocks(), 0),
             };
         }
-        let Place::At(place) = blocks::find(&table.ids, table.count, base) else {
-            return Kept {
-                answer: Done::Refused(10),
+        let Some(place) = blocks::find(&table.ids, table.count, base) else {
+            return After {
+                answer: Err(Refusal::UnknownBase),
                 round: opened(0, nobody(), no_blocks(), 0),
             };
         };
-        Kept {
-            answer: Done::Yes,
+        After {
+            answer: Ok(()),
             round: opened(number, voters, table, place),
         }
     }
@@ -407,12 +317,12 @@ impl Round {
     }
 
     // One more block.
-    pub fn add_block(mut self, id: u32, parent: u32) -> Grown
+    pub fn add_block(mut self, id: u32, parent: u32) -> After<Result<u8, Refusal>>
         ensures { result ≡ add_block id parent self }
     {
         if !self.is_round() {
-            return Grown {
-                answer: Answer::Refused(9),
+            return After {
+                answer: Err(Refusal::Misshapen),
                 round: self,
             };
         }
@@ -436,14 +346,19 @@ impl Round {
             count,
         };
         self.table = table_after;
-        Grown {
+        After {
             answer,
             round: self,
         }
     }
 
     // A vote in a phase, on a round that keeps the shape rules.
-    fn import(mut self, phase: Phase, signer: u32, pair: Pair) -> Imported
+    fn import(
+        mut self,
+        phase: Phase,
+        signer: u32,
+        pair: Pair,
+    ) -> After<Result<ImportResult, Refusal>>
         requires { T (shaped self) }
         ensures { result ≡ imported phase signer pair self }
     {
@@ -549,30 +464,30 @@ impl Round {
         self.history = history_after;
         self.heard = told;
         self.answers = answers;
-        Imported {
+        After {
             answer,
             round: self,
         }
     }
 
-    pub fn import_prevote(self, signer: u32, pair: Pair) -> Imported
+    pub fn import_prevote(self, signer: u32, pair: Pair) -> After<Result<ImportResult, Refusal>>
         ensures { result ≡ import_vote Prevote signer pair self }
     {
         if !self.is_round() {
-            return Imported {
-                answer: ImportResult::Refused(9),
+            return After {
+                answer: Err(Refusal::Misshapen),
                 round: self,
             };
         }
         self.import(Phase::Prevote, signer, pair)
     }
 
-    pub fn import_precommit(self, signer: u32, pair: Pair) -> Imported
+    pub fn import_precommit(self, signer: u32, pair: Pair) -> After<Result<ImportResult, Refusal>>
         ensures { result ≡ import_vote Precommit signer pair self }
     {
         if !self.is_round() {
-            return Imported {
-                answer: ImportResult::Refused(9),
+            return After {
+                answer: Err(Refusal::Misshapen),
                 round: self,
             };
         }
@@ -580,7 +495,7 @@ impl Round {
     }
 
     // The precommit-GHOST, from the stored one, on a round that keeps the shape rules.
-    fn sought(self) -> Found
+    fn sought(self) -> Option<u8>
         requires { T (shaped self) }
         ensures { result ≡ sought self }
     {
@@ -614,241 +529,170 @@ impl Round {
     }
 
     // Works the precommit-GHOST out again and stores it.
-    pub fn precommit_ghost(mut self) -> Asked
+    pub fn precommit_ghost(mut self) -> After<Result<Option<(u32, u32)>, Refusal>>
         ensures { result ≡ precommit_ghost self }
     {
         if !self.is_round() {
-            return Asked {
-                answer: Told::Refused(9),
+            return After {
+                answer: Err(Refusal::Misshapen),
                 round: self,
             };
         }
         let found = self.sought();
-        let table = self.table;
-        let answer = block_of(&table.ids, &table.numbers, found);
-        let stored = self.answers;
-        let prevote = stored.prevote;
-        let finalized = stored.finalized;
-        let estimate = stored.estimate;
-        let answers_after = Answers {
-            prevote,
-            precommit: found,
-            finalized,
-            estimate,
-            completable: stored.completable,
-        };
-        self.answers = answers_after;
-        Asked {
-            answer,
+        self.answers.precommit = found;
+        After {
+            answer: Ok(block_of(&self.table.ids, &self.table.numbers, found)),
             round: self,
         }
     }
 
     // This desk has prevoted: the votes seen so far.
-    pub fn set_prevoted_index(mut self) -> Kept
+    pub fn set_prevoted_index(mut self) -> After<Result<(), Refusal>>
         ensures { result ≡ set_index Prevote self }
     {
         if !self.is_round() {
-            return Kept {
-                answer: Done::Refused(9),
+            return After {
+                answer: Err(Refusal::Misshapen),
                 round: self,
             };
         }
         let history = self.history;
         self.history = marked(history, Phase::Prevote);
-        Kept {
-            answer: Done::Yes,
+        After {
+            answer: Ok(()),
             round: self,
         }
     }
 
     // The same of a precommit.
-    pub fn set_precommitted_index(mut self) -> Kept
+    pub fn set_precommitted_index(mut self) -> After<Result<(), Refusal>>
         ensures { result ≡ set_index Precommit self }
     {
         if !self.is_round() {
-            return Kept {
-                answer: Done::Refused(9),
+            return After {
+                answer: Err(Refusal::Misshapen),
                 round: self,
             };
         }
         let history = self.history;
         self.history = marked(history, Phase::Precommit);
-        Kept {
-            answer: Done::Yes,
+        After {
+            answer: Ok(()),
             round: self,
         }
     }
 
+    // Refusal 9, where the round breaks a shape rule.
+    fn tested(&self) -> Result<(), Refusal>
+        ensures { result ≡ tested self.now }
+    {
+        if !self.is_round() {
+            return Err(Refusal::Misshapen);
+        }
+        Ok(())
+    }
+
     // The calls from here on only read.
-    pub fn number(self) -> Number
+    pub fn number(self) -> Result<u64, Refusal>
         ensures { result ≡ number self }
     {
-        if !self.is_round() {
-            return Number::Refused(9);
-        }
-        Number::Is(self.number)
+        self.tested()?;
+        Ok(self.number)
     }
 
-    pub fn threshold(self) -> Number
+    pub fn threshold(self) -> Result<u64, Refusal>
         ensures { result ≡ threshold self }
     {
-        if !self.is_round() {
-            return Number::Refused(9);
-        }
-        let context = self.context;
-        let voters = context.voters;
-        Number::Is(voters.threshold)
+        self.tested()?;
+        Ok(self.context.voters.threshold)
     }
 
-    pub fn prevoted_index(self) -> Number
+    pub fn prevoted_index(self) -> Result<Option<u64>, Refusal>
         ensures { result ≡ prevoted_index self }
     {
-        if !self.is_round() {
-            return Number::Refused(9);
-        }
-        let history = self.history;
-        let prevoted = history.prevoted;
-        index_number(prevoted)
+        self.tested()?;
+        Ok(self.history.prevoted)
     }
 
-    pub fn precommitted_index(self) -> Number
+    pub fn precommitted_index(self) -> Result<Option<u64>, Refusal>
         ensures { result ≡ precommitted_index self }
     {
-        if !self.is_round() {
-            return Number::Refused(9);
-        }
-        let history = self.history;
-        let precommitted = history.precommitted;
-        index_number(precommitted)
+        self.tested()?;
+        Ok(self.history.precommitted)
     }
 
-    pub fn completable(self) -> Whether
+    pub fn completable(self) -> Result<bool, Refusal>
         ensures { result ≡ completable self }
     {
-        if !self.is_round() {
-            return Whether::Refused(9);
-        }
-        let answers = self.answers;
-        if answers.completable {
-            return Whether::Yes;
-        }
-        Whether::No
+        self.tested()?;
+        Ok(self.answers.completable)
     }
 
-    pub fn estimate(self) -> Told
+    pub fn estimate(self) -> Result<Option<(u32, u32)>, Refusal>
         ensures { result ≡ estimate self }
     {
-        if !self.is_round() {
-            return Told::Refused(9);
-        }
-        let table = self.table;
-        let answers = self.answers;
-        let found = answers.estimate;
-        block_of(&table.ids, &table.numbers, found)
+        self.tested()?;
+        Ok(block_of(&self.table.ids, &self.table.numbers, self.answers.estimate))
     }
 
-    pub fn finalized(self) -> Told
+    pub fn finalized(self) -> Result<Option<(u32, u32)>, Refusal>
         ensures { result ≡ finalized self }
     {
-        if !self.is_round() {
-            return Told::Refused(9);
-        }
-        let table = self.table;
-        let answers = self.answers;
-        let found = answers.finalized;
-        block_of(&table.ids, &table.numbers, found)
+        self.tested()?;
+        Ok(block_of(&self.table.ids, &self.table.numbers, self.answers.finalized))
     }
 
-    pub fn base(self) -> Told
+    pub fn base(self) -> Result<Option<(u32, u32)>, Refusal>
         ensures { result ≡ base self }
     {
-        if !self.is_round() {
-            return Told::Refused(9);
-        }
-        let table = self.table;
-        let graph = self.graph;
-        block_of(&table.ids, &table.numbers, Found::At(graph.base))
+        self.tested()?;
+        Ok(block_of(&self.table.ids, &self.table.numbers, Some(self.graph.base)))
     }
 
-    pub fn prevote_participation(self) -> Participation
+    pub fn prevote_participation(self) -> Result<(u64, u32), Refusal>
         ensures { result ≡ prevote_participation self }
     {
-        if !self.is_round() {
-            return Participation::Refused(9);
-        }
-        let graph = self.graph;
-        let count = heard_in(graph, Phase::Prevote);
-        let heard = self.heard;
-        Participation::Heard(heard.prevote, count)
+        self.tested()?;
+        Ok((self.heard.prevote, heard_in(self.graph, Phase::Prevote)))
     }
 
-    pub fn precommit_participation(self) -> Participation
+    pub fn precommit_participation(self) -> Result<(u64, u32), Refusal>
         ensures { result ≡ precommit_participation self }
     {
-        if !self.is_round() {
-            return Participation::Refused(9);
-        }
-        let graph = self.graph;
-        let count = heard_in(graph, Phase::Precommit);
-        let heard = self.heard;
-        Participation::Heard(heard.precommit, count)
+        self.tested()?;
+        Ok((self.heard.precommit, heard_in(self.graph, Phase::Precommit)))
     }
 
-    pub fn primary_voter(self) -> Primary
+    pub fn primary_voter(self) -> Result<Option<(u32, VoterInfo)>, Refusal>
         ensures { result ≡ primary_voter self }
     {
-        if !self.is_round() {
-            return Primary::Refused(9);
-        }
-        let context = self.context;
-        let voters = context.voters;
-        let nth = voters.nth_mod(self.number as usize);
-        primary_of(nth)
+        self.tested()?;
+        Ok(self.context.voters.nth_mod(self.number as usize))
     }
 
-    pub fn state(self) -> Answered
+    pub fn state(self) -> Result<State, Refusal>
         ensures { result ≡ state self }
     {
-        if !self.is_round() {
-            return Answered::Refused(9);
-        }
-        let table = self.table;
-        let answers = self.answers;
-        let found = answers.prevote;
-        let prevote = block_of(&table.ids, &table.numbers, found);
-        let found = answers.finalized;
-        let finalized = block_of(&table.ids, &table.numbers, found);
-        let found = answers.estimate;
-        let estimate = block_of(&table.ids, &table.numbers, found);
-        let told = State {
-            prevote,
-            finalized,
-            estimate,
-            completable: answers.completable,
-        };
-        Answered::Is(told)
+        self.tested()?;
+        let ids = &self.table.ids;
+        let numbers = &self.table.numbers;
+        Ok(State {
+            prevote: block_of(ids, numbers, self.answers.prevote),
+            finalized: block_of(ids, numbers, self.answers.finalized),
+            estimate: block_of(ids, numbers, self.answers.estimate),
+            completable: self.answers.completable,
+        })
     }
 
-    pub fn voters(self) -> Voters
+    pub fn voters(self) -> Result<VoterSet, Refusal>
         ensures { result ≡ voters self }
     {
-        if !self.is_round() {
-            return Voters {
-                answer: Done::Refused(9),
-                voters: nobody(),
-            };
-        }
-        let context = self.context;
-        let voters = context.voters;
-        Voters {
-            answer: Done::Yes,
-            voters,
-        }
+        self.tested()?;
+        Ok(self.context.voters)
     }
 
     // The wanted votes of a round that keeps the shape rules, by rising voter.
-    fn listed(self, wanted: Wanted, out: &mut [u8]) -> Written
+    fn listed(self, wanted: Wanted, out: &mut [u8]) -> Result<usize, Refusal>
         requires { T (shaped self) }
         ensures { ◌≡◌ {A = Lent} (record { answer = result; bytes = out.new }) (listed wanted self out.old) }
     {
@@ -867,31 +711,25 @@ impl Round {
         records(entries, list.count, voters, table, votes, out)
     }
 
-    pub fn prevotes(self, out: &mut [u8]) -> Written
+    pub fn prevotes(self, out: &mut [u8]) -> Result<usize, Refusal>
         ensures { ◌≡◌ {A = Lent} (record { answer = result; bytes = out.new }) (votes_of Prevote self out.old) }
     {
-        if !self.is_round() {
-            return Written::Refused(9);
-        }
+        self.tested()?;
         self.listed(Wanted::Of(Phase::Prevote), out)
     }
 
-    pub fn precommits(self, out: &mut [u8]) -> Written
+    pub fn precommits(self, out: &mut [u8]) -> Result<usize, Refusal>
         ensures { ◌≡◌ {A = Lent} (record { answer = result; bytes = out.new }) (votes_of Precommit self out.old) }
     {
-        if !self.is_round() {
-            return Written::Refused(9);
-        }
+        self.tested()?;
         self.listed(Wanted::Of(Phase::Precommit), out)
     }
 
     // Every recorded vote in arrival order.
-    pub fn historical_votes(self, out: &mut [u8]) -> Written
+    pub fn historical_votes(self, out: &mut [u8]) -> Result<usize, Refusal>
         ensures { ◌≡◌ {A = Lent} (record { answer = result; bytes = out.new }) (historical_votes self out.old) }
     {
-        if !self.is_round() {
-            return Written::Refused(9);
-        }
+        self.tested()?;
         let context = self.context;
         let voters = context.voters;
         let table = self.table;
@@ -902,16 +740,12 @@ impl Round {
     }
 
     // The precommits that finalize the finalized block.
-    pub fn finalizing_precommits(self, out: &mut [u8]) -> Written
+    pub fn finalizing_precommits(self, out: &mut [u8]) -> Result<usize, Refusal>
         ensures { ◌≡◌ {A = Lent} (record { answer = result; bytes = out.new }) (finalizing_precommits self out.old) }
     {
-        if !self.is_round() {
-            return Written::Refused(9);
-        }
-        let answers = self.answers;
-        let finalized = answers.finalized;
-        let Found::At(block) = finalized else {
-            return Written::Refused(15);
+        self.tested()?;
+        let Some(block) = self.answers.finalized else {
+            return Err(Refusal::NothingFinal);
         };
         self.listed(Wanted::Finalizing(block), out)
     }

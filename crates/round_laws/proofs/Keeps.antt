@@ -12,8 +12,6 @@ use Rattle.voter_set.specs.declared.VoterSet.{VoterSet}
 use Rattle.voter_set.specs.Good.{good}
 use Rattle.voter_laws.proofs.Goods.{good_means}
 use Rattle.blocks.specs.declared.BlockTable.{BlockTable}
-use Rattle.blocks.specs.declared.Place.{Place}
-use Rattle.blocks.specs.declared.Place.TheVariants as place
 use Rattle.blocks.specs.Table.{Stands}
 use Rattle.blocks.specs.Add.{place_of, on_place, step}
 use Rattle.block_shape.specs.Shape.{tabled}
@@ -30,15 +28,14 @@ use Rattle.held_laws.proofs.Opens.{opened_kept}
 use Rattle.held_laws.proofs.Keeps.{import_keeps}
 use Rattle.held_laws.proofs.Adds.{adding_keeps, sought_keeps}
 use Rattle.round.specs.declared.Round.{Round}
-use Rattle.round.specs.declared.Done.TheVariants as done
-use Rattle.round.specs.declared.Kept as round
-use Rattle.round.specs.declared.Grown.{Grown}
-use Rattle.round.specs.declared.Imported.{Imported}
-use Rattle.round.specs.declared.Asked.{Asked}
 use Rattle.round.specs.Shape.{frame, held, shaped}
 use Rattle.round.specs.Calls.{opened, not_opened, new, with_table, add_block, with_held, imported, import_vote, sought, with_sought, precommit_ghost, marked, with_history, set_index}
 use Rattle.round_laws.specs.Fits.{Fits}
 use Rattle.round_laws.proofs.Shaped.{shaped_kept, shaped_marked, kept_shaped}
+use Rattle.std.specs.Prelude.{Option, Some, None, Ok, Result, ⊤}
+use Rattle.refusals.specs.declared.Refusal.{Refusal}
+use Rattle.round.specs.declared.After.{After}
+use Rattle.judging.specs.declared.ImportResult.{ImportResult}
 
 -- where the test passes
 pub on_true : {A : Type 0} (P : A → Type 0) (b : Bool) (x y : A) → T b → P x → P (cond b x y)
@@ -63,26 +60,26 @@ module _ (number : ℕ) (voters : VoterSet) (table : BlockTable) where
       (record { prevoted = tt; precommitted = tt })
 
   module _ (base : ℕ) where
-    abbrev outcome : Bool → Bool → Place → round.Kept
+    abbrev outcome : Bool → Bool → Option ℕ → (After (Result ⊤ Refusal))
     outcome a b p =
-        cond a (cond b (on_place p (λ k. record { answer = done.Yes; round = opened number voters table k }) (not_opened 10)) (not_opened 9)) (not_opened 9)
+        cond a (cond b (on_place p (λ k. record { answer = Ok tt; round = opened number voters table k }) (not_opened 10)) (not_opened 9)) (not_opened 9)
 
-    abbrev Made : round.Kept → Type 0
+    abbrev Made : After (Result ⊤ Refusal) → Type 0
     Made x = (k : ℕ) × (good voters ≡ true) × T (tabled table) × Stands table base k × (x.round ≡ opened number voters table k)
 
     -- a round that `new` answers with is opened at its base, on voters and a table that keep their shape
-    pub new_opened : (new number voters table base).answer ≡ done.Yes → Made (new number voters table base)
+    pub new_opened : (new number voters table base).answer ≡ Ok tt → Made (new number voters table base)
     unfolding new
     new_opened = go (good voters) refl (tabled table) refl (place_of table.ids table.count base) refl
       where
-        go : (a : Bool) → good voters ≡ a → (b : Bool) → tabled table ≡ b → (p : Place) → place_of table.ids table.count base ≡ p
-            → (outcome a b p).answer ≡ done.Yes → Made (outcome a b p)
-        go true s true t (place.At k) e q = (k, s, T_true t, found_stands table (tabled_shaped table (T_true t)) base k e, refl)
-        go true s true t place.Nothing e q = absurd (let z : ◌≡◌ {A = ℕ} 0 1 = cc in omega arith)
+        go : (a : Bool) → good voters ≡ a → (b : Bool) → tabled table ≡ b → (p : Option ℕ) → place_of table.ids table.count base ≡ p
+            → (outcome a b p).answer ≡ Ok tt → Made (outcome a b p)
+        go true s true t (Some k) e q = (k, s, T_true t, found_stands table (tabled_shaped table (T_true t)) base k e, refl)
+        go true s true t None e q = absurd (let z : ◌≡◌ {A = ℕ} 0 1 = cc in omega arith)
         go true s false t p e q = absurd (let z : ◌≡◌ {A = ℕ} 0 1 = cc in omega arith)
         go false s b t p e q = absurd (let z : ◌≡◌ {A = ℕ} 0 1 = cc in omega arith)
 
-    module _ (fits : voters.total ≤ most) (answered : (new number voters table base).answer ≡ done.Yes) where
+    module _ (fits : voters.total ≤ most) (answered : (new number voters table base).answer ≡ Ok tt) where
       pub new_opens : Opens (framed number voters table (new_opened answered).0)
       new_opens =
           let m = new_opened answered in
@@ -102,7 +99,7 @@ module _ (r : Round) (fits : Fits r) (t : T (shaped r)) where
   unfolding import_vote imported
   import_shaped phase signer p =
       let next = (import (frame r) phase signer p (held r)).held in
-      on_true (λ (x : Imported). T (shaped x.round)) (shaped r) (imported phase signer p r) _ t
+      on_true (λ (x : After (Result ImportResult Refusal)). T (shaped x.round)) (shaped r) (imported phase signer p r) _ t
       (kept_shaped (with_held r next) (subst (Kept (frame r)) (sym (held_again r next)) (import_keeps (frame r) (held r) kept phase signer p))
       (record { prevoted = (shaped_marked r t).prevoted; precommitted = (shaped_marked r t).precommitted }))
 
@@ -110,7 +107,7 @@ module _ (r : Round) (fits : Fits r) (t : T (shaped r)) where
   pub add_shaped : (id parent : ℕ) → T (shaped (add_block id parent r).round)
   unfolding add_block
   add_shaped id parent =
-      on_true (λ (x : Grown). T (shaped x.round)) (shaped r) _ _ t
+      on_true (λ (x : After (Result ℕ Refusal)). T (shaped x.round)) (shaped r) _ _ t
       (kept_shaped (with_table r (step r.table id parent).table) (adding_keeps (frame r) (held r) kept id parent)
       (record { prevoted = (shaped_marked r t).prevoted; precommitted = (shaped_marked r t).precommitted }))
 
@@ -118,7 +115,7 @@ module _ (r : Round) (fits : Fits r) (t : T (shaped r)) where
   pub ghost_shaped : T (shaped (precommit_ghost r).round)
   unfolding precommit_ghost sought
   ghost_shaped =
-      on_true (λ (x : Asked). T (shaped x.round)) (shaped r) _ _ t
+      on_true (λ (x : After (Result (Option (ℕ × ℕ)) Refusal)). T (shaped x.round)) (shaped r) _ _ t
       (kept_shaped (with_sought r (sought r)).round (sought_keeps (frame r) (held r) kept)
       (record { prevoted = (shaped_marked r t).prevoted; precommitted = (shaped_marked r t).precommitted }))
 
@@ -126,7 +123,7 @@ module _ (r : Round) (fits : Fits r) (t : T (shaped r)) where
   pub index_shaped : (phase : Phase) → T (shaped (set_index phase r).round)
   unfolding set_index
   index_shaped phase =
-      on_true (λ (x : round.Kept). T (shaped x.round)) (shaped r) _ _ t (go phase)
+      on_true (λ (x : After (Result ⊤ Refusal)). T (shaped x.round)) (shaped r) _ _ t (go phase)
     where
       few : T (leb r.history.count HISTORY)
       few = T_true (le-leb _ HISTORY kept.recorded.history.fits)

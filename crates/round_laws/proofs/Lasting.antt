@@ -22,10 +22,6 @@ use Rattle.held_laws.proofs.Reaches.{comes_voters, comes_framed}
 use Rattle.held_laws.proofs.Onward.{comes_grown, comes_later}
 use Rattle.held_laws.proofs.Answered.{reached_meant, reached_stays}
 use Rattle.round.specs.declared.Round.{Round}
-use Rattle.round.specs.declared.Kept as round
-use Rattle.round.specs.declared.Grown.{Grown}
-use Rattle.round.specs.declared.Imported.{Imported}
-use Rattle.round.specs.declared.Asked.{Asked}
 use Rattle.round.specs.Shape.{frame, held, shaped}
 use Rattle.round.specs.Calls as call
 use Rattle.round.specs.Calls.{opened, add_block, imported, import_vote, sought, precommit_ghost, set_index}
@@ -33,6 +29,10 @@ use Rattle.round_laws.specs.Fits.{Fits}
 use Rattle.round_laws.specs.Later.{Later, here, voted, added, asked, marked, Reached, voters_of, blocks_of, votes_of, answers_of}
 use Rattle.round_laws.proofs.Shaped.{shaped_kept}
 use Rattle.round_laws.proofs.Keeps.{on_true, held_again, opened_again, opened_shaped, new_opened, new_opens, import_shaped, add_shaped, ghost_shaped, index_shaped}
+use Rattle.std.specs.Prelude.{Option, Result, ⊤}
+use Rattle.refusals.specs.declared.Refusal.{Refusal}
+use Rattle.round.specs.declared.After.{After}
+use Rattle.judging.specs.declared.ImportResult.{ImportResult}
 
 -- a round that calls made of r: it keeps the shape, and its frame and what is held come from those of r
 pub record Arrived (r s : Round) : Type 0 where
@@ -50,24 +50,24 @@ module _ (r : Round) (fits : Fits r) where
     moved_voted : (phase : Phase) (signer : ℕ) (p : Pair) → Moved (import_vote phase signer p s).round
     unfolding import_vote imported
     moved_voted phase signer p =
-        on_true (λ (x : Imported). Moved x.round) (shaped s) (imported phase signer p s) _ a.keeps
+        on_true (λ (x : After (Result ImportResult Refusal)). Moved x.round) (shaped s) (imported phase signer p s) _ a.keeps
         (subst (Comes (frame r) (held r) (frame s)) (sym (held_again s (import (frame s) phase signer p (held s)).held))
         (state.voted (frame s) (held s) a.comes phase signer p))
 
     moved_added : (id parent : ℕ) → Moved (add_block id parent s).round
     unfolding add_block
     moved_added id parent =
-        on_true (λ (x : Grown). Moved x.round) (shaped s) (call.grown s (step s.table id parent)) _ a.keeps
+        on_true (λ (x : After (Result ℕ Refusal)). Moved x.round) (shaped s) (call.grown s (step s.table id parent)) _ a.keeps
         (state.added (frame s) (held s) a.comes id parent)
 
     moved_asked : Moved (precommit_ghost s).round
     unfolding precommit_ghost sought
     moved_asked =
-        on_true (λ (x : Asked). Moved x.round) (shaped s) (call.with_sought s (sought s)) _ a.keeps (state.asked (frame s) (held s) a.comes)
+        on_true (λ (x : After (Result (Option (ℕ × ℕ)) Refusal)). Moved x.round) (shaped s) (call.with_sought s (sought s)) _ a.keeps (state.asked (frame s) (held s) a.comes)
 
     moved_marked : (phase : Phase) → Moved (set_index phase s).round
     unfolding set_index
-    moved_marked phase = on_true (λ (x : round.Kept). Moved x.round) (shaped s) _ _ a.keeps (go phase)
+    moved_marked phase = on_true (λ (x : After (Result ⊤ Refusal)). Moved x.round) (shaped s) _ _ a.keeps (go phase)
       where
         go : (phase : Phase) → Moved (call.with_history s (call.marked phase s.history))
         go Prevote = a.comes

@@ -1,6 +1,6 @@
 -- Rounds that calls make of a round, and the rounds that calls reach. Document 01, "Shape rules": every reached state keeps them;
 -- demands 2 and 3 speak of these states.
-use Rattle.std.specs.Prelude.{◌≡◌, ℕ, ◌≤◌}
+use Rattle.std.specs.Prelude.{◌≡◌, ℕ, ◌≤◌, Ok}
 use Rattle.weights.specs.Weights.{most}
 use Rattle.grandpa.specs.Tree.{Blocks}
 use Rattle.grandpa.specs.Vote.{Vote, Voters}
@@ -13,7 +13,6 @@ use Rattle.answer_laws.specs.Faithful.{table, voters, votes}
 use Rattle.held_laws.specs.Kept.{setting}
 use Rattle.held_laws.specs.Answered.{answered}
 use Rattle.round.specs.declared.Round.{Round}
-use Rattle.round.specs.declared.Done.TheVariants.{Yes}
 use Rattle.round.specs.Shape.{frame, held}
 use Rattle.round.specs.Calls.{new, add_block, import_vote, precommit_ghost, set_index}
 
@@ -32,7 +31,7 @@ pub record Reached (r : Round) : Type 0 where
   pub table : BlockTable
   pub base : ℕ
   pub fits : voters.total ≤ most
-  pub opens : (new number voters table base).answer ≡ Yes
+  pub opens : (new number voters table base).answer ≡ Ok tt
   pub calls : Later (new number voters table base).round r
 
 -- voters, blocks, recorded votes and stored answers of a round as the definitions name them

@@ -8,8 +8,7 @@ use answers::{Answers, Heard};
 use blocks::BlockTable;
 use context::Context;
 use graph_rows::Row;
-use nodes::Found;
-use round::{History, Index, Round};
+use round::{History, Round};
 use sizes::{BLOCKS, HISTORY, VOTERS, VOTES, WORDS};
 use tracker::Votes;
 use vote_graph::VoteGraph;
@@ -210,10 +209,10 @@ fn put_votes(flat: &mut [u64; SIZE], votes: Votes) {
     put_words(flat, SECOND_SIGNATURE, &votes.second_signature);
 }
 
-fn index_word(index: Index) -> u64 {
+fn index_word(index: Option<u64>) -> u64 {
     match index {
-        Index::At(seen) => seen,
-        Index::Nothing => 18446744073709551615,
+        Some(seen) => seen,
+        None => 18446744073709551615,
     }
 }
 
@@ -226,10 +225,10 @@ fn put_history(flat: &mut [u64; SIZE], history: History) {
     put(flat, PRECOMMITTED, index_word(precommitted));
 }
 
-fn block_word(block: Found) -> u64 {
+fn block_word(block: Option<u8>) -> u64 {
     match block {
-        Found::At(place) => place as u64,
-        Found::Nothing => 256,
+        Some(place) => place as u64,
+        None => 256,
     }
 }
 
@@ -410,12 +409,12 @@ fn get_votes(flat: &[u64; SIZE]) -> Votes {
     }
 }
 
-fn index_at(flat: &[u64; SIZE], at: usize) -> Index {
+fn index_at(flat: &[u64; SIZE], at: usize) -> Option<u64> {
     let seen = get(flat, at);
     if seen == 18446744073709551615 {
-        return Index::Nothing;
+        return None;
     }
-    Index::At(seen)
+    Some(seen)
 }
 
 fn get_history(flat: &[u64; SIZE]) -> History {
@@ -431,11 +430,11 @@ fn get_history(flat: &[u64; SIZE]) -> History {
     }
 }
 
-fn block_at(flat: &[u64; SIZE], at: usize) -> Found {
+fn block_at(flat: &[u64; SIZE], at: usize) -> Option<u8> {
     if 256 <= get(flat, at) {
-        return Found::Nothing;
+        return None;
     }
-    Found::At(byte_at(flat, at))
+    Some(byte_at(flat, at))
 }
 
 fn get_answers(flat: &[u64; SIZE]) -> Answers {

@@ -14,6 +14,7 @@ use Rattle.runs.specs.Follow.{continued}
 use Rattle.runs.proofs.Counts.{counted_none, counted_twice, counted_ended, counted_parts}
 use Rattle.runs.proofs.Turns.{ran_unknown, ran_goes, ran_stops, ran_leaves}
 use Rattle.runs.proofs.Inductions.{by_run}
+use Rattle.refusals.specs.declared.Refusal.TheVariants.{UnknownMark}
 
 module _ {S : Type 0} (step : S → Mark → List ℕ → Next S) (b : List ℕ) where
   -- the ways to go on, by the end of the run
@@ -50,7 +51,7 @@ module _ {S : Type 0} (step : S → Mark → List ℕ → Next S) (b : List ℕ)
   run_append =
       by_run step (λ s a r. ran step s (a ++ b) ≡ continued step b r)
       (λ s a e. sym (continued_cut (ended s 0 a Cut) refl ∙ counted_none (ran step s (a ++ b))))
-      (λ s a e. ran_unknown step s (a ++ b) (unknown_more a b e) ∙ sym (continued_refused (ended s 0 a (Refused 17)) 17 refl))
+      (λ s a e. ran_unknown step s (a ++ b) (unknown_more a b e) ∙ sym (continued_refused (ended s 0 a (Refused UnknownMark)) 17 refl))
       (λ s a m k e q.
       ran_stops step s (a ++ b) m k (whole_more a b m e) (same s a m e ∙ q) ∙ sym (continued_refused (ended s 0 a (Refused k)) k refl))
       (λ s a m e q. ran_leaves step s (a ++ b) m (whole_more a b m e) (same s a m e ∙ q) ∙ sym (continued_left (ended s 0 a Left) refl))

@@ -12,6 +12,7 @@ use Rattle.marks.proofs.Readings.{read_short}
 use Rattle.marks.proofs.Parts.{length_after}
 use Rattle.runs.specs.Run.{Next, Run, ended, run, counted}
 use Rattle.runs.proofs.Fuels.{Met, cut, unknown, taken, refused, left, met, turn_none, turn_cut, turn_unknown, turn_goes, turn_stops, turn_leaves}
+use Rattle.refusals.specs.declared.Refusal.TheVariants.{UnknownMark}
 
 pub counted_none : {S : Type 0} (r : Run S) → counted 0 r ≡ r
 unfolding counted
@@ -41,7 +42,7 @@ module _ {S : Type 0} (step : S → Mark → List ℕ → Next S) where
       go : Met step s bs → ((t : S) (k : ℕ) (cs : List ℕ) → run step f t k cs ≡ counted k (run step f t 0 cs))
           → run step (suc f) s n bs ≡ counted n (run step (suc f) s 0 bs)
       go (cut e) ih = over Cut (turn_cut step (suc f) s n bs e) (turn_cut step (suc f) s 0 bs e)
-      go (unknown e) ih = over (Refused 17) (turn_unknown step f s n bs e) (turn_unknown step f s 0 bs e)
+      go (unknown e) ih = over (Refused UnknownMark) (turn_unknown step f s n bs e) (turn_unknown step f s 0 bs e)
       go (refused m k e q) ih = over (Refused k) (turn_stops step f s n bs m k e q) (turn_stops step f s 0 bs m k e q)
       go (left m e q) ih = over Left (turn_leaves step f s n bs m e q) (turn_leaves step f s 0 bs m e q)
       go (taken m t e q) ih =

@@ -10,14 +10,15 @@ use Rattle.marks.specs.Marks.{named, read, fields, after, word, long}
 use Rattle.runs.specs.Run.{Next, goes, stops, leaves, ended, run, ran, counted}
 use Rattle.runs.specs.Follow.{continued, carried}
 use Rattle.runs.specs.Parsed.{entries, parsed, span, rest_after, tail, folded, tail_end, after_fold, within}
+use Rattle.refusals.specs.declared.Refusal.TheVariants.{OutOfTurn, UnknownMark}
 
 abbrev weigh : ℕ → Mark → List ℕ → Next ℕ
 weigh total Vt fs = goes (total + long fs 4)
 weigh total Rt fs = leaves
-weigh total Bk fs = stops 18
-weigh total Op fs = stops 18
-weigh total Pv fs = stops 18
-weigh total Pc fs = stops 18
+weigh total Bk fs = stops OutOfTurn
+weigh total Op fs = stops OutOfTurn
+weigh total Pv fs = stops OutOfTurn
+weigh total Pc fs = stops OutOfTurn
 
 -- voter 1 of weight 5, voter 2 of weight 7, root 10 of number 0, block 11 under 10
 abbrev voters : List ℕ
@@ -35,8 +36,8 @@ block = 66 ∷ 107 ∷ 11 ∷ 0 ∷ 0 ∷ 0 ∷ 10 ∷ 0 ∷ 0 ∷ 0 ∷ []
 pub four_ends :
     (ran weigh 0 (voters ++ take 3 root) ≡ ended 12 2 (take 3 root) Cut)
     × (ran weigh 0 (voters ++ (root ++ block)) ≡ ended 12 2 (root ++ block) Left)
-    × (ran weigh 0 (voters ++ (block ++ root)) ≡ ended 12 2 (block ++ root) (Refused 18))
-    × (ran weigh 0 (voters ++ (63 ∷ 63 ∷ [])) ≡ ended 12 2 (63 ∷ 63 ∷ []) (Refused 17))
+    × (ran weigh 0 (voters ++ (block ++ root)) ≡ ended 12 2 (block ++ root) (Refused OutOfTurn))
+    × (ran weigh 0 (voters ++ (63 ∷ 63 ∷ [])) ≡ ended 12 2 (63 ∷ 63 ∷ []) (Refused UnknownMark))
 unfolding named read fields after word long run ran
 four_ends = (refl, refl, refl, refl)
 
@@ -55,8 +56,8 @@ in_pieces = refl
 
 -- from the list of records: a refusal at the third, and an unknown mark behind them all
 pub from_the_list :
-    (after_fold (voters ++ (block ++ root)) (folded weigh 0 (parsed (voters ++ (block ++ root)))) ≡ ended 12 2 (block ++ root) (Refused 18))
-    × (after_fold (voters ++ (63 ∷ 63 ∷ [])) (folded weigh 0 (parsed (voters ++ (63 ∷ 63 ∷ [])))) ≡ ended 12 2 (63 ∷ 63 ∷ []) (Refused 17))
+    (after_fold (voters ++ (block ++ root)) (folded weigh 0 (parsed (voters ++ (block ++ root)))) ≡ ended 12 2 (block ++ root) (Refused OutOfTurn))
+    × (after_fold (voters ++ (63 ∷ 63 ∷ [])) (folded weigh 0 (parsed (voters ++ (63 ∷ 63 ∷ [])))) ≡ ended 12 2 (63 ∷ 63 ∷ []) (Refused UnknownMark))
 unfolding named read fields after word long entries parsed span rest_after tail folded tail_end after_fold
 from_the_list = (refl, refl)
 
@@ -64,13 +65,13 @@ from_the_list = (refl, refl)
 abbrev doubled : ℕ → Mark → List ℕ → Next ℕ
 doubled total Vt fs = goes (total + 2 * long fs 4)
 doubled total Rt fs = goes (total + word fs 0)
-doubled total Bk fs = stops 18
-doubled total Op fs = stops 18
-doubled total Pv fs = stops 18
-doubled total Pc fs = stops 18
+doubled total Bk fs = stops OutOfTurn
+doubled total Op fs = stops OutOfTurn
+doubled total Pv fs = stops OutOfTurn
+doubled total Pc fs = stops OutOfTurn
 
 pub in_a_larger_step :
-    (ran doubled 0 (voters ++ (root ++ block)) ≡ ended 34 3 block (Refused 18))
-    × (carried doubled (λ n. 2 * n) (ran weigh 0 (voters ++ (root ++ block))) ≡ ended 34 3 block (Refused 18))
+    (ran doubled 0 (voters ++ (root ++ block)) ≡ ended 34 3 block (Refused OutOfTurn))
+    × (carried doubled (λ n. 2 * n) (ran weigh 0 (voters ++ (root ++ block))) ≡ ended 34 3 block (Refused OutOfTurn))
 unfolding named read fields after word long run ran counted carried
 in_a_larger_step = (refl, refl)

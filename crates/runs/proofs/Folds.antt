@@ -15,6 +15,7 @@ use Rattle.runs.specs.Follow.{on_cut}
 use Rattle.runs.specs.Parsed.{Entry, parsed, span, rest_after, tail, Folded, folded_on, folded, tail_end, after_fold}
 use Rattle.runs.proofs.Inductions.{by_run}
 use Rattle.runs.proofs.Parses.{parsed_cut, parsed_unknown, parsed_whole}
+use Rattle.refusals.specs.declared.Refusal.TheVariants.{UnknownMark}
 
 -- before the first record nothing is taken off, and each record takes its bytes off
 pub rest_none : (bs : List ℕ) → rest_after 0 bs ≡ bs
@@ -39,7 +40,7 @@ tail_cut : (bs : List ℕ) → read bs ≡ is.Cut → tail_end bs ≡ Cut
 unfolding tail_end
 tail_cut bs e = rw e
 
-tail_unknown : (bs : List ℕ) → read bs ≡ is.Unknown → tail_end bs ≡ Refused 17
+tail_unknown : (bs : List ℕ) → read bs ≡ is.Unknown → tail_end bs ≡ Refused UnknownMark
 unfolding tail_end
 tail_unknown bs e = rw e
 

@@ -8,6 +8,7 @@ use Rattle.marks.specs.declared.Record.TheVariants as is
 use Rattle.marks.specs.declared.End.TheVariants.{Cut, Refused, Left}
 use Rattle.marks.specs.Marks.{read, fields, after}
 use Rattle.runs.specs.Run.{Next, goes, stops, leaves, ended, run}
+use Rattle.refusals.specs.declared.Refusal.TheVariants.{UnknownMark}
 
 module _ {S : Type 0} (step : S → Mark → List ℕ → Next S) where
   pub data Met (s : S) (bs : List ℕ) : Type 0 where
@@ -40,7 +41,7 @@ module _ {S : Type 0} (step : S → Mark → List ℕ → Next S) where
   turn_cut zero s n bs e = turn_none s n bs
   turn_cut (suc f) s n bs e = rw e
 
-  pub turn_unknown : (f : ℕ) (s : S) (n : ℕ) (bs : List ℕ) → read bs ≡ is.Unknown → run step (suc f) s n bs ≡ ended s n bs (Refused 17)
+  pub turn_unknown : (f : ℕ) (s : S) (n : ℕ) (bs : List ℕ) → read bs ≡ is.Unknown → run step (suc f) s n bs ≡ ended s n bs (Refused UnknownMark)
   unfolding run
   turn_unknown f s n bs e = rw e
 

@@ -11,12 +11,13 @@ use Rattle.marks.specs.declared.Record.{Record}
 use Rattle.marks.specs.declared.Record.TheVariants as is
 use Rattle.marks.specs.declared.End.{End}
 use Rattle.marks.specs.declared.End.TheVariants.{Cut}
-use Rattle.marks.specs.declared.Turn.{Turn}
-use Rattle.marks.specs.declared.Turn.TheVariants.{Goes, Over}
 use Rattle.marks.specs.Marks.{read, size, fields, ends, ending}
 use Rattle.runs.specs.Run.{Next, goes, stops, leaves, ended, ran, counted}
 use Rattle.runs.specs.Tried.{Tried, taken_or_not, tried}
 use Rattle.runs.proofs.Turns.{part_drop, whole_fits, whole_fields, run_start, run_goes, run_stops, run_leaves, run_cut, run_unknown}
+use Rattle.std.specs.Prelude.{⊤}
+use Rattle.std.specs.declared.ops.ControlFlow.{ControlFlow}
+use Rattle.std.specs.declared.ops.ControlFlow.TheVariants.{Continue, Break}
 
 -- the bytes from a place on, as code makes them
 abbrev pub part : ℕ → List ℕ → List ℕ
@@ -27,9 +28,9 @@ abbrev pub NotWhole : Record → Type 0
 NotWhole r = (m : Mark) → r ≡ is.Whole m → ⊥
 
 -- why a loop is over
-abbrev over : Turn → End
-over Goes = Cut
-over (Over e) = e
+abbrev over : ControlFlow End ⊤ → End
+over (Continue tt) = Cut
+over (Break e) = e
 
 -- a record that was read whole ends within the bytes
 next_fits : (at : ℕ) (bs : List ℕ) (m : Mark) (fs : List ℕ) → at ≤ length bs → read (part at bs) ≡ is.Whole m → fs ≡ fields m (part at bs)
@@ -67,12 +68,12 @@ module _ {S : Type 0} (step : S → Mark → List ℕ → Next S) where
       }
 
   -- what a record that was tried says of the step
-  next_goes : (s t : S) (x : Next S) → record { state = t; turn = Goes } ≡ taken_or_not s x → x ≡ goes t
+  next_goes : (s t : S) (x : Next S) → record { state = t; turn = Continue tt } ≡ taken_or_not s x → x ≡ goes t
   next_goes s t (goes u) e = ap goes (sym (ap (λ (r : Tried S). r.state) e))
   next_goes s t (stops n) e = absurd (let f = ap (λ (r : Tried S). r.turn) e in let z : ◌≡◌ {A = ℕ} 0 1 = cc in omega arith)
   next_goes s t leaves e = absurd (let f = ap (λ (r : Tried S). r.turn) e in let z : ◌≡◌ {A = ℕ} 0 1 = cc in omega arith)
 
-  pub tried_goes : (s t : S) (m : Mark) (fs : List ℕ) (u : Turn) → record { state = t; turn = u } ≡ tried step s m fs → u ≡ Goes
+  pub tried_goes : (s t : S) (m : Mark) (fs : List ℕ) (u : ControlFlow End ⊤) → record { state = t; turn = u } ≡ tried step s m fs → u ≡ Continue tt
       → step s m fs ≡ goes t
   unfolding tried
   tried_goes s t m fs u h e = next_goes s t (step s m fs) (ap (λ x. record { state = t; turn = x }) (sym e) ∙ h)
@@ -97,15 +98,15 @@ module _ {S : Type 0} (step : S → Mark → List ℕ → Next S) where
 
   -- the loop is over at a record: the state is the one before it
   next_over : (s t : S) (n : ℕ) (bs : List ℕ) (m : Mark) (x : Next S) (e : End) → read bs ≡ is.Whole m → step s m (fields m bs) ≡ x
-      → record { state = t; turn = Over e } ≡ taken_or_not s x → ended t n bs e ≡ counted n (ran step s bs)
+      → record { state = t; turn = Break e } ≡ taken_or_not s x → ended t n bs e ≡ counted n (ran step s bs)
   next_over s t n bs m (goes u) e w q h = absurd (let f = ap (λ (r : Tried S). r.turn) h in let z : ◌≡◌ {A = ℕ} 0 1 = cc in omega arith)
   next_over s t n bs m (stops k) e w q h =
       ap (λ (r : Tried S). ended r.state n bs (over r.turn)) h ∙ sym (run_stops step s n bs m k w q)
   next_over s t n bs m leaves e w q h =
       ap (λ (r : Tried S). ended r.state n bs (over r.turn)) h ∙ sym (run_leaves step s n bs m w q)
 
-  pub going_over : (first s t : S) (n at : ℕ) (bs : List ℕ) (m : Mark) (fs : List ℕ) (u : Turn) (e : End) → Going first bs s n at
-      → read (part at bs) ≡ is.Whole m → fs ≡ fields m (part at bs) → record { state = t; turn = u } ≡ tried step s m fs → u ≡ Over e
+  pub going_over : (first s t : S) (n at : ℕ) (bs : List ℕ) (m : Mark) (fs : List ℕ) (u : ControlFlow End ⊤) (e : End) → Going first bs s n at
+      → read (part at bs) ≡ is.Whole m → fs ≡ fields m (part at bs) → record { state = t; turn = u } ≡ tried step s m fs → u ≡ Break e
       → ended t n (drop at bs) e ≡ ran step first bs
   unfolding tried
   going_over first s t n at bs m fs u e g w f h o =

@@ -13,6 +13,7 @@ use Rattle.runs.specs.Follow.{carried}
 use Rattle.runs.proofs.Counts.{counted_none, counted_twice, counted_ended, counted_parts}
 use Rattle.runs.proofs.Turns.{ran_cut, ran_unknown, ran_goes, ran_stops}
 use Rattle.runs.proofs.Inductions.{by_run}
+use Rattle.refusals.specs.declared.Refusal.TheVariants.{UnknownMark}
 
 module _ {S J : Type 0} (took : J → Mark → List ℕ → Next J) (e : S → J) where
   -- the ways to go on, by the end of the run
@@ -53,7 +54,7 @@ module _ {S J : Type 0} (step : S → Mark → List ℕ → Next S) (took : J �
   run_simulates =
       by_run step (λ s bs r. P s → (ran took (e s) bs ≡ carried took e r) × P r.state)
       (λ s bs c p. (ran_cut took (e s) bs c ∙ sym (carried_cut took e (ended s 0 bs Cut) refl), p))
-      (λ s bs u p. (ran_unknown took (e s) bs u ∙ sym (carried_refused took e (ended s 0 bs (Refused 17)) 17 refl), p))
+      (λ s bs u p. (ran_unknown took (e s) bs u ∙ sym (carried_refused took e (ended s 0 bs (Refused UnknownMark)) 17 refl), p))
       (λ s bs m k w q p.
       (ran_stops took (e s) bs m k w (on_stops s m (fields m bs) k p q) ∙ sym (carried_refused took e (ended s 0 bs (Refused k)) k refl), p))
       (λ s bs m w q p. (sym (carried_left took e (ended s 0 bs Left) refl ∙ counted_none (ran took (e s) bs)), p))

@@ -16,6 +16,7 @@ use Rattle.marks.proofs.Parts.{length_after, length_fields, after_drop}
 use Rattle.runs.specs.Run.{Next, goes, stops, leaves, ended, run, ran, counted}
 use Rattle.runs.proofs.Fuels.{turn_cut, turn_unknown, turn_goes, turn_stops, turn_leaves}
 use Rattle.runs.proofs.Counts.{counted_none, counted_ended, counted_twice, run_counts, run_more}
+use Rattle.refusals.specs.declared.Refusal.TheVariants.{UnknownMark}
 
 -- a part of the bytes from a place on, as code makes it
 pub part_drop : (at : ℕ) (bs : List ℕ) → take (length bs - at) (drop at bs) ≡ drop at bs
@@ -37,7 +38,7 @@ module _ {S : Type 0} (step : S → Mark → List ℕ → Next S) where
   pub ran_cut : (s : S) (bs : List ℕ) → read bs ≡ is.Cut → ran step s bs ≡ ended s 0 bs Cut
   ran_cut s bs e = turned s bs ∙ turn_cut step (suc (length bs)) s 0 bs e
 
-  pub ran_unknown : (s : S) (bs : List ℕ) → read bs ≡ is.Unknown → ran step s bs ≡ ended s 0 bs (Refused 17)
+  pub ran_unknown : (s : S) (bs : List ℕ) → read bs ≡ is.Unknown → ran step s bs ≡ ended s 0 bs (Refused UnknownMark)
   ran_unknown s bs e = turned s bs ∙ turn_unknown step (length bs) s 0 bs e
 
   pub ran_stops : (s : S) (bs : List ℕ) (m : Mark) (k : ℕ) → read bs ≡ is.Whole m → step s m (fields m bs) ≡ stops k
@@ -86,5 +87,5 @@ module _ {S : Type 0} (step : S → Mark → List ℕ → Next S) where
   pub run_cut : (s : S) (n : ℕ) (bs : List ℕ) → read bs ≡ is.Cut → counted n (ran step s bs) ≡ ended s n bs Cut
   run_cut s n bs e = over n s bs Cut (ran_cut s bs e)
 
-  pub run_unknown : (s : S) (n : ℕ) (bs : List ℕ) → read bs ≡ is.Unknown → counted n (ran step s bs) ≡ ended s n bs (Refused 17)
-  run_unknown s n bs e = over n s bs (Refused 17) (ran_unknown s bs e)
+  pub run_unknown : (s : S) (n : ℕ) (bs : List ℕ) → read bs ≡ is.Unknown → counted n (ran step s bs) ≡ ended s n bs (Refused UnknownMark)
+  run_unknown s n bs e = over n s bs (Refused UnknownMark) (ran_unknown s bs e)

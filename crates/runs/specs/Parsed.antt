@@ -1,5 +1,5 @@
 -- A journal as a list of records. Document 01, "The journal": a record is a mark and its fields; records are taken in order up to the
--- first refusal; an unknown mark is refused with 17; a journal cut at any byte gives the state of the whole records before the cut.
+-- first refusal; an unknown mark is refused with UnknownMark; a journal cut at any byte gives the state of the whole records before the cut.
 use Rattle.std.specs.Prelude.{cond, List, [], ◌∷◌, ℕ, zero, suc, ◌+◌, ◌-◌, leb, length, take, drop}
 use Rattle.marks.specs.declared.Mark.{Mark}
 use Rattle.marks.specs.declared.End.{End}
@@ -7,6 +7,7 @@ use Rattle.marks.specs.declared.End.TheVariants.{Cut, Refused, Left}
 use Rattle.marks.specs.Marks.{read, size, fields, after}
 use Rattle.runs.specs.Run.{Next, Run, on_read, on_next, ended}
 use Rattle.runs.specs.Follow.{on_cut}
+use Rattle.refusals.specs.declared.Refusal.TheVariants.{UnknownMark}
 
 pub record Entry : Type 0 where
   pub mark : Mark
@@ -50,7 +51,7 @@ folded step s (e ∷ es) =
 
 -- how a run ends that took every whole record: refused where an unknown mark follows
 unfoldable pub tail_end : List ℕ → End
-tail_end bs = on_read (read bs) (λ m. Cut) Cut (Refused 17)
+tail_end bs = on_read (read bs) (λ m. Cut) Cut (Refused UnknownMark)
 
 -- a run over some bytes, told from what becomes of their whole records
 unfoldable pub after_fold : {S : Type 0} → List ℕ → Folded S → Run S

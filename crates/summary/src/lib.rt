@@ -6,16 +6,17 @@ ghost use Rattle.summary.specs.Summary.{bare, of_round, summed};
 
 use answers::Heard;
 use context::Phase;
-use feeding::{Replay, Stop};
+use feeding::Replay;
 use journal::Turn;
-use round::{Round, Told};
+use refusals::Refusal;
+use round::Round;
 
 // A round; an end before the round was opened; a refused record, which is the one after those taken.
 #[derive(Clone, Copy)]
 pub enum Outcome {
     Voting,
     Early,
-    Refused(u8),
+    Refused(Refusal),
 }
 
 // Where there is no round, what belongs to one is blank.
@@ -30,9 +31,9 @@ pub struct Summary {
     pub heard: Heard,
     pub prevoters: u32,
     pub precommitters: u32,
-    pub prevote: Told,
-    pub estimate: Told,
-    pub finalized: Told,
+    pub prevote: Option<(u32, u32)>,
+    pub estimate: Option<(u32, u32)>,
+    pub finalized: Option<(u32, u32)>,
     pub completable: bool,
 }
 
@@ -50,9 +51,9 @@ pub fn bare(outcome: Outcome, records: u64, tail: usize) -> Summary
         heard: answers::no_heard(),
         prevoters: 0,
         precommitters: 0,
-        prevote: Told::Nothing,
-        estimate: Told::Nothing,
-        finalized: Told::Nothing,
+        prevote: None,
+        estimate: None,
+        finalized: None,
         completable: false,
     }
 }
@@ -101,8 +102,8 @@ pub fn of(replay: Replay) -> Summary
     let journal = replay.journal;
     let turn = journal.turn;
     match stop {
-        Stop::Refused(number) => bare(Outcome::Refused(number), replay.records, 0),
-        Stop::Open => match turn {
+        Err(refusal) => bare(Outcome::Refused(refusal), replay.records, 0),
+        Ok(()) => match turn {
             Turn::Votes => {
                 let round = journal.round;
                 of_round(round, replay.records, rest.count)

@@ -1,16 +1,15 @@
 -- Document 01's lines ("The journal"), from what a replay tells. "Refusal numbers": 14, with the buffer untouched.
-use Rattle.std.specs.Prelude.{Bool, cond, List, ◌++◌, ℕ, ltb, length, drop}
+use Rattle.std.specs.Prelude.{Bool, cond, List, ◌++◌, ℕ, ltb, length, drop, Option, Ok, Err}
 use Rattle.weights.specs.Weights.{plus}
-use Rattle.listing.specs.declared.Written.TheVariants as answer
 use Rattle.listing.specs.Written.{Lent}
-use Rattle.round.specs.declared.Told.{Told}
 use Rattle.lines.specs.Lines.{text, line, heard_line, block_line, completable_line}
 use Rattle.lines.specs.Lines as lines
 use Rattle.summary.specs.declared.Outcome.{Outcome}
 use Rattle.summary.specs.declared.Outcome.TheVariants.{Voting, Early, Refused}
 use Rattle.summary.specs.declared.Summary.{Summary}
+use Rattle.refusals.specs.declared.Refusal.TheVariants.{ShortBuffer}
 
-unfoldable pub answer_text : Told → Told → Told → Bool → List ℕ
+unfoldable pub answer_text : Option (ℕ × ℕ) → Option (ℕ × ℕ) → Option (ℕ × ℕ) → Bool → List ℕ
 answer_text highest estimate finalized completable =
     block_line (text "ghost") highest ++ block_line (text "estimate") estimate ++ block_line (text "final") finalized ++ completable_line completable
 
@@ -34,5 +33,5 @@ text_of s = text_by s.outcome s
 unfoldable pub printed : Summary → List ℕ → Lent
 printed s out =
     cond (ltb (length out) (length (text_of s)))
-    (record { answer = answer.Refused 14; bytes = out })
-    (record { answer = answer.Bytes (length (text_of s)); bytes = text_of s ++ drop (length (text_of s)) out })
+    (record { answer = Err ShortBuffer; bytes = out })
+    (record { answer = Ok (length (text_of s)); bytes = text_of s ++ drop (length (text_of s)) out })

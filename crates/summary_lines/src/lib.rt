@@ -7,8 +7,7 @@ ghost use Rattle.listing.specs.Written.{Lent};
 ghost use Rattle.lines.specs.Put.{Put};
 ghost use Rattle.summary_lines.specs.Text.{answer_text, round_text, text_of, printed};
 
-use listing::Written;
-use round::Told;
+use refusals::Refusal;
 use summary::{Outcome, Summary};
 
 // The number of the record after those taken.
@@ -23,9 +22,9 @@ fn next(records: u64) -> u64
 fn put_answers(
     out: &mut [u8; 512],
     at: usize,
-    highest: Told,
-    estimate: Told,
-    finalized: Told,
+    highest: Option<(u32, u32)>,
+    estimate: Option<(u32, u32)>,
+    finalized: Option<(u32, u32)>,
     completable: bool,
 ) -> usize
     requires { at + 163 ≤ 512 }
@@ -75,19 +74,19 @@ fn put(out: &mut [u8; 512], summary: Summary) -> usize
     match outcome {
         Outcome::Voting => put_round(out, summary),
         Outcome::Early => lines::put_no_round(out, summary.tail),
-        Outcome::Refused(number) => lines::put_refused(out, number, next(summary.records)),
+        Outcome::Refused(refusal) => lines::put_refused(out, refusal, next(summary.records)),
     }
 }
 
 // The lines from the start of a lent buffer; the bytes after them stay.
-pub fn print(summary: Summary, out: &mut [u8]) -> Written
+pub fn print(summary: Summary, out: &mut [u8]) -> Result<usize, Refusal>
     ensures { ◌≡◌ {A = Lent} (record { answer = result; bytes = out.new }) (printed summary out.old) }
 {
     let mut text = [0u8; 512];
     let size = put(&mut text, summary);
     if out.len() < size {
-        return Written::Refused(14);
+        return Err(Refusal::ShortBuffer);
     }
     spans::copy(&text[..size], out);
-    Written::Bytes(size)
+    Ok(size)
 }

@@ -10,11 +10,9 @@ use Rattle.lent.specs.Moment.{plain}
 use Rattle.columns.specs.Lists.{padded}
 use Rattle.weights.specs.Weights.{plus}
 use Rattle.voter_set.specs.declared.VoterSet.{VoterSet}
-use Rattle.voter_set.specs.declared.NewVoterSet.{NewVoterSet}
 use Rattle.voter_set.specs.declared.Answer.TheVariants as voters
 use Rattle.voter_set.specs.Voters.{new}
 use Rattle.blocks.specs.declared.BlockTable.{BlockTable}
-use Rattle.blocks.specs.declared.Place.TheVariants.{At, Nothing}
 use Rattle.blocks.specs.Add.{place_of}
 use Rattle.block_table.specs.Add as table
 use Rattle.block_laws.proofs.Adds.{found_stands}
@@ -56,6 +54,9 @@ use Rattle.summary.specs.declared.Outcome.TheVariants.{Early}
 use Rattle.summary.specs.declared.Summary.{Summary}
 use Rattle.summary.specs.Summary.{bare, of_round, summed}
 use Rattle.summing.specs.Summing.{told, of_parts, closed}
+use Rattle.std.specs.Prelude.{Some, None, Result}
+use Rattle.refusals.specs.declared.Refusal.TheVariants.{UnknownBase}
+use Rattle.refusals.specs.declared.Refusal.{Refusal}
 
 -- a part of the bytes from a place on, as code makes it
 abbrev part : ℕ → List ℕ → List ℕ
@@ -135,11 +136,11 @@ opened_room a b t e =
     (omega arith, length-set (replicate BLOCKS 0) 0 a ∙ length-replicate {A = ℕ} BLOCKS 0)
 
 -- the Rt
-module _ (m : ℕ) (p : Pairs) (bs : List ℕ) (is_rt : read bs ≡ is.Whole Rt) (fs : List ℕ) (all : fs ≡ fields Rt bs) (made : NewVoterSet)
+module _ (m : ℕ) (p : Pairs) (bs : List ℕ) (is_rt : read bs ≡ is.Whole Rt) (fs : List ℕ) (all : fs ≡ fields Rt bs) (made : Result VoterSet Refusal)
     (is_made : made ≡ new (take p.count p.ids) (take p.count p.weights)) where
   pub rt_stop : (z : ℕ) → made.answer ≡ voters.Refused z → (k : ℕ) → k ≡ plus m 0 → (r : Summary) → r ≡ bare (outcome.Refused z) k 0 → r ≡ told m (pairing p) bs
   rt_stop z e =
-      stops_at m 0 (pairing p) (laid (pairing p)) bs bs z (root_refused p bs is_rt z (ap (λ (x : NewVoterSet). x.answer) (sym is_made) ∙ e))
+      stops_at m 0 (pairing p) (laid (pairing p)) bs bs z (root_refused p bs is_rt z (ap (λ (x : Result VoterSet Refusal). x.answer) (sym is_made) ∙ e))
 
   module _ (yes : made.answer ≡ voters.Made) (a b : ℕ) (root : a ≡ word fs 0) (height : b ≡ word fs 4) where
     pub rt_stands : Stands Kept (growing made.voters (table.opened a b))
@@ -150,7 +151,7 @@ module _ (m : ℕ) (p : Pairs) (bs : List ℕ) (is_rt : read bs ≡ is.Whole Rt)
     rt_on k f r g =
         goes_on m 1 (pairing p)
         (growing (new (take p.count p.ids) (take p.count p.weights)).voters (table.opened (word (fields Rt bs) 0) (word (fields Rt bs) 4))) 10 bs
-        (root_goes p bs is_rt (ap (λ (x : NewVoterSet). x.answer) (sym is_made) ∙ yes)) k f r
+        (root_goes p bs is_rt (ap (λ (x : Result VoterSet Refusal). x.answer) (sym is_made) ∙ yes)) k f r
         (g
         ∙ (λ i. told k
         (growing (is_made i).voters (table.opened ((root ∙ ap (λ l. word l 0) all) i) ((height ∙ ap (λ l. word l 4) all) i)))
@@ -162,10 +163,10 @@ module _ (m : ℕ) (v : VoterSet) (t : BlockTable) (stands : Stands Kept (growin
   sought : (o : _) → place_of t.ids t.count base ≡ o → place_of t.ids t.count (word (fields Op bs) 8) ≡ o
   sought o e = ap (place_of t.ids t.count) (ap (λ l. word l 8) (sym all) ∙ sym named) ∙ e
 
-  pub op_stop : place_of t.ids t.count base ≡ Nothing → (k : ℕ) → k ≡ plus m 0 → (r : Summary) → r ≡ bare (outcome.Refused 10) k 0 → r ≡ told m (growing v t) bs
-  op_stop e = stops_at m 0 (growing v t) (laid (growing v t)) bs bs 10 (open_refused v t bs is_op (sought Nothing e))
+  pub op_stop : place_of t.ids t.count base ≡ None → (k : ℕ) → k ≡ plus m 0 → (r : Summary) → r ≡ bare (outcome.Refused UnknownBase) k 0 → r ≡ told m (growing v t) bs
+  op_stop e = stops_at m 0 (growing v t) (laid (growing v t)) bs bs 10 (open_refused v t bs is_op (sought None e))
 
-  module _ (number : ℕ) (named_too : number ≡ long fs 0) (b : ℕ) (found : place_of t.ids t.count base ≡ At b) where
+  module _ (number : ℕ) (named_too : number ≡ long fs 0) (b : ℕ) (found : place_of t.ids t.count base ≡ Some b) where
     pub op_kept : Kept (opened_round number v t b).frame (opened_held b)
     op_kept =
         opened_kept (opened_round number v t b).frame
@@ -174,7 +175,7 @@ module _ (m : ℕ) (v : VoterSet) (t : BlockTable) (stands : Stands Kept (growin
     pub op_on : (k : ℕ) → k ≡ plus m 1 → (r : Summary) → r ≡ told k (voting (opened_round number v t b)) (part 14 bs) → r ≡ told m (growing v t) bs
     unfolding after
     op_on k f r g =
-        goes_on m 1 (growing v t) (voting (opened_round (long (fields Op bs) 0) v t b)) 14 bs (open_goes v t bs is_op b (sought (At b) found)) k f r
+        goes_on m 1 (growing v t) (voting (opened_round (long (fields Op bs) 0) v t b)) 14 bs (open_goes v t bs is_op b (sought (Some b) found)) k f r
         (g ∙ ap (λ n. told k (voting (opened_round n v t b)) (part 14 bs)) (named_too ∙ ap (λ l. long l 0) all))
 
 -- the third turn, from columns that code has just blanked

@@ -14,6 +14,7 @@ use Rattle.summary.specs.declared.Outcome.TheVariants as outcome
 use Rattle.summary.specs.declared.Outcome.TheVariants.{Voting}
 use Rattle.summary.specs.declared.Summary.{Summary}
 use Rattle.summary.specs.Summary.{bare, summed}
+use Rattle.refusals.specs.declared.Refusal.TheVariants.{OutOfTurn}
 
 -- what some bytes tell from a state on, n records taken before them
 unfoldable pub told : ℕ → Journal → List ℕ → Summary
@@ -42,4 +43,4 @@ of_parts ids numbers bits number total threshold heard answers records tail =
 abbrev pub closed : End → Summary → ℕ → Summary
 closed Cut s n = s
 closed (Refused k) s n = bare (outcome.Refused k) n 0
-closed Left s n = bare (outcome.Refused 18) n 0
+closed Left s n = bare (outcome.Refused OutOfTurn) n 0

@@ -21,13 +21,12 @@ ghost use Rattle.summary.specs.Summary.{summed};
 ghost use Rattle.summing.specs.Summing.{told, of_parts, closed};
 
 use answers::{Answers, Heard};
-use blocks::Place;
 use context::Phase;
 use marks::{End, Mark};
-use nodes::Found;
+use refusals::Refusal;
 use sizes::{BLOCKS, HISTORY, PAIRS, VOTES, WORDS};
 use summary::{Outcome, Summary};
-use voter_set::{Answer, NewVoterSet, VoterSet};
+use voter_set::VoterSet;
 
 // A round by its parts.
 fn of_parts<'a>(
@@ -94,7 +93,7 @@ fn closed<'a>(
             )
         }
         End::Refused(refusal) => summary::bare(Outcome::Refused(refusal), records, 0),
-        End::Left => summary::bare(Outcome::Refused(18), records, 0),
+        End::Left => summary::bare(Outcome::Refused(Refusal::OutOfTurn), records, 0),
     }
 }
 
@@ -191,8 +190,12 @@ fn open(
     let fields = marks::fields(part, Mark::Op);
     let number = marks::long(fields, 0);
     let base = marks::word(fields, 8);
-    let Place::At(place) = blocks::find(ids, blocks, base) else {
-        return summary::bare(Outcome::Refused(10), feeding::more(records, 0), 0);
+    let Some(place) = blocks::find(ids, blocks, base) else {
+        return summary::bare(
+            Outcome::Refused(Refusal::UnknownBase),
+            feeding::more(records, 0),
+            0,
+        );
     };
     let seen = feeding::more(records, 1);
     votes(
@@ -232,12 +235,12 @@ fn grown(voters: VoterSet, root: u32, height: u32, records: u64, bytes: &[u8]) -
             &bytes[at..],
         ),
         End::Cut => summary::bare(Outcome::Early, seen, bytes.len() - at),
-        End::Refused(number) => summary::bare(Outcome::Refused(number), seen, 0),
+        End::Refused(refusal) => summary::bare(Outcome::Refused(refusal), seen, 0),
     }
 }
 
 // The voter set of the pairs so far.
-fn make(ids: &[u32], weights: &[u64], count: usize) -> NewVoterSet
+fn make(ids: &[u32], weights: &[u64], count: usize) -> Result<VoterSet, Refusal>
     requires { (count ≤ length ids.now) × (count ≤ length weights.now) }
     ensures { result ≡ new (take count ids.now) (take count weights.now) }
 {
@@ -256,16 +259,9 @@ fn root(
     ensures { result ≡ told records (pairing (record { ids = ids.entry.now; weights = weights.now; count = pairs })) part.now }
 {
     let fields = marks::fields(part, Mark::Rt);
-    let made = make(ids, weights, pairs);
-    let answer = made.answer;
-    let voters = made.voters;
-    match answer {
-        Answer::Refused(number) => summary::bare(
-            Outcome::Refused(number),
-            feeding::more(records, 0),
-            0,
-        ),
-        Answer::Made => {
+    match make(ids, weights, pairs) {
+        Err(refusal) => summary::bare(Outcome::Refused(refusal), feeding::more(records, 0), 0),
+        Ok(voters) => {
             let first = marks::word(fields, 0);
             let height = marks::word(fields, 4);
             let seen = feeding::more(records, 1);
@@ -287,6 +283,6 @@ pub fn replayed(bytes: &[u8]) -> Summary
     match end {
         End::Left => root(&ids, &weights, ran.pairs, seen, &bytes[at..]),
         End::Cut => summary::bare(Outcome::Early, seen, bytes.len() - at),
-        End::Refused(number) => summary::bare(Outcome::Refused(number), seen, 0),
+        End::Refused(refusal) => summary::bare(Outcome::Refused(refusal), seen, 0),
     }
 }

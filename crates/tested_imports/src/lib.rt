@@ -4,6 +4,7 @@
 ghost use Rattle.std.specs.Prelude.{◌≡◌, length};
 
 use judging::ImportResult;
+use refusals::Refusal;
 use round::Round;
 use tracker::Pair;
 
@@ -15,14 +16,14 @@ fn more(count: u64) -> u64 {
     count + 1
 }
 
-fn counted(count: u64, answer: ImportResult) -> u64 {
+fn counted(count: u64, answer: Result<ImportResult, Refusal>) -> u64 {
     match answer {
-        ImportResult::Refused(_) => count,
-        ImportResult::Outside => more(count),
-        ImportResult::Counted => more(count),
-        ImportResult::Duplicated => more(count),
-        ImportResult::Equivocated(_) => more(count),
-        ImportResult::Ignored => more(count),
+        Err(_) => count,
+        Ok(ImportResult::Outside) => more(count),
+        Ok(ImportResult::Counted) => more(count),
+        Ok(ImportResult::Duplicated) => more(count),
+        Ok(ImportResult::Equivocated(_)) => more(count),
+        Ok(ImportResult::Ignored) => more(count),
     }
 }
 

@@ -16,10 +16,6 @@ use Rattle.voter_set.specs.Good.{Good}
 use Rattle.voter_set.specs.Voters.{new}
 use Rattle.voter_laws.proofs.Made.{made_fit, made_total, new_good}
 use Rattle.blocks.specs.declared.BlockTable.{BlockTable}
-use Rattle.blocks.specs.declared.Answer as block
-use Rattle.blocks.specs.declared.Answer.TheVariants as answer
-use Rattle.blocks.specs.declared.Place.{Place}
-use Rattle.blocks.specs.declared.Place.TheVariants.{At, Nothing}
 use Rattle.blocks.specs.Add.{place_of, on_place, step}
 use Rattle.block_shape.specs.Shape.{Shaped}
 use Rattle.block_table.specs.Add.{opened}
@@ -48,6 +44,9 @@ use Rattle.voting.specs.Voting as vote
 use Rattle.voting.specs.Voting.{Voting, pair_in, counted, with_blocks, voted}
 use Rattle.turns.specs.Turns.{Journal, pairing, growing, voting, seated, rooted, opened_round, based, took}
 use Rattle.turns.specs.Stands.{Stands}
+use Rattle.std.specs.Prelude.{Option, Some, None, Result, Ok, Err}
+use Rattle.refusals.specs.declared.Refusal.{Refusal}
+use Rattle.refusals.specs.declared.Refusal.TheVariants.{OutOfTurn, UnknownBase, VoterList}
 
 -- a state that goes on has a property; nothing is said of one that does not
 abbrev pub Then : {S : Type 0} → (S → Type 0) → Next S → Type 0
@@ -65,7 +64,7 @@ pub paired_few : (p : Pairs) → p.count ≤ PAIRS → (m : Mark) (fs : List ℕ
 unfolding paired
 paired_few p h Vt fs = go (leb PAIRS p.count) refl
   where
-    go : (b : Bool) → leb PAIRS p.count ≡ b → Then (λ (q : Pairs). q.count ≤ PAIRS) (cond b (stops 1) (goes (with_pair p (word fs 0) (long fs 4))))
+    go : (b : Bool) → leb PAIRS p.count ≡ b → Then (λ (q : Pairs). q.count ≤ PAIRS) (cond b (stops VoterList) (goes (with_pair p (word fs 0) (long fs 4))))
     go true e = tt
     go false e = omega (arith, leb-false PAIRS p.count e)
 paired_few p h Rt fs = tt
@@ -82,9 +81,9 @@ pub grown_shaped : (t : BlockTable) → Shaped t → (m : Mark) (fs : List ℕ) 
 unfolding grown
 grown_shaped t s Bk fs = go (added t fs).answer
   where
-    go : (a : block.Answer) → Then Shaped (answered (added t fs).table a)
-    go (answer.Placed k) = added_shaped t s fs
-    go (answer.Refused n) = tt
+    go : (a : Result ℕ Refusal) → Then Shaped (answered (added t fs).table a)
+    go (Ok k) = added_shaped t s fs
+    go (Err n) = tt
 grown_shaped t s Vt fs = tt
 grown_shaped t s Rt fs = tt
 grown_shaped t s Op fs = tt
@@ -98,21 +97,21 @@ module _ (P : Frame → Held → Type 0)
   abbrev Q : Voting → Type 0
   Q r = P r.frame r.held
 
-  answered_has : (r : Voting) (a : ImportResult) → Q r → Then Q (vote.answered r a)
-  answered_has r (result.Refused n) q = tt
-  answered_has r result.Outside q = q
-  answered_has r result.Counted q = q
-  answered_has r result.Duplicated q = q
-  answered_has r (result.Equivocated e) q = q
-  answered_has r result.Ignored q = q
+  answered_has : (r : Voting) (a : Result ImportResult Refusal) → Q r → Then Q (vote.answered r a)
+  answered_has r (Err n) q = tt
+  answered_has r (Ok result.Outside) q = q
+  answered_has r (Ok result.Counted) q = q
+  answered_has r (Ok result.Duplicated) q = q
+  answered_has r (Ok (result.Equivocated e)) q = q
+  answered_has r (Ok result.Ignored) q = q
 
   pub voted_has : (r : Voting) → Q r → (m : Mark) (fs : List ℕ) → Then Q (voted r m fs)
   unfolding voted counted grown added
   voted_has r q Bk fs = go (step r.frame.table (word fs 0) (word fs 4)).answer
     where
-      go : (a : block.Answer) → Then Q (with_blocks r (answered (step r.frame.table (word fs 0) (word fs 4)).table a))
-      go (answer.Placed k) = adds r.frame r.held q (word fs 0) (word fs 4)
-      go (answer.Refused n) = tt
+      go : (a : Result ℕ Refusal) → Then Q (with_blocks r (answered (step r.frame.table (word fs 0) (word fs 4)).table a))
+      go (Ok k) = adds r.frame r.held q (word fs 0) (word fs 4)
+      go (Err n) = tt
   voted_has r q Pv fs = answered_has _ (import r.frame Prevote (word fs 0) (pair_in fs) r.held).answer (votes r.frame r.held q Prevote (word fs 0) (pair_in fs))
   voted_has r q Pc fs = answered_has _ (import r.frame Precommit (word fs 0) (pair_in fs) r.held).answer (votes r.frame r.held q Precommit (word fs 0) (pair_in fs))
   voted_has r q Vt fs = tt
@@ -140,12 +139,12 @@ module _ (P : Frame → Held → Type 0)
   unfolding based
   based_stands v t g l s fs = go (place_of t.ids t.count (word fs 8)) refl
     where
-      go : (o : Place) → place_of t.ids t.count (word fs 8) ≡ o
-          → Then (Stands P) (on_place o (λ b. goes (voting (opened_round (long fs 0) v t b))) (stops 10))
-      go (At b) e =
+      go : (o : Option ℕ) → place_of t.ids t.count (word fs 8) ≡ o
+          → Then (Stands P) (on_place o (λ b. goes (voting (opened_round (long fs 0) v t b))) (stops UnknownBase))
+      go (Some b) e =
           opens (framed (long fs 0) v t b)
           (record { good = g; fits = l; table = s; in_table = (found_stands t s (word fs 8) b e).inside })
-      go Nothing e = tt
+      go None e = tt
 
   -- the next state stands
   pub took_stands : (j : Journal) → Stands P j → (m : Mark) (fs : List ℕ) → Then (Stands P) (took j m fs)
@@ -155,7 +154,7 @@ module _ (P : Frame → Held → Type 0)
   took_stands (growing v t) h m fs =
       on_then Shaped (Stands P) (growing v) (grown t m fs) (based v t fs) (λ u s. (h.0, h.1, s)) (grown_shaped t h.2 m fs)
       (based_stands v t h.0 h.1 h.2 fs)
-  took_stands (voting r) h m fs = on_then Q (Stands P) voting (voted r m fs) (stops 18) (λ s q. q) (voted_has r h m fs) tt
+  took_stands (voting r) h m fs = on_then Q (Stands P) voting (voted r m fs) (stops OutOfTurn) (λ s q. q) (voted_has r h m fs) tt
 
 -- the shape rules, and being reached by calls
 pub took_kept : (j : Journal) → Stands Kept j → (m : Mark) (fs : List ℕ) → Then (Stands Kept) (took j m fs)

@@ -1,7 +1,7 @@
 -- Document 02, R-2, and document 01, "Refusal numbers" 9 and 16: for two rounds of one round number, voters, base and block table, the
 -- sum of weights of voters who equivocated in precommits in either view, or have recorded precommits in both whose targets differ in id.
 -- The tables are one and its ids are distinct, so that targets differ in id where they differ in place.
-use Rattle.std.specs.Prelude.{Bool, cond, ◌&&◌, List, ℕ, min, eqb, length, get_or}
+use Rattle.std.specs.Prelude.{Bool, cond, ◌&&◌, List, ℕ, min, eqb, length, get_or, Result, Ok, Err}
 use Rattle.loops.specs.All.{all}
 use Rattle.loops.specs.Sum.{weigh}
 use Rattle.weights.specs.Weights.{most}
@@ -15,8 +15,8 @@ use Rattle.nodes.specs.Nodes.{col}
 use Rattle.tracker.specs.Recorded.{cast_of, cast}
 use Rattle.round.specs.declared.Round.{Round}
 use Rattle.round.specs.Shape.{shaped}
-use Rattle.two_views.specs.declared.Views.{Views}
-use Rattle.two_views.specs.declared.Views.TheVariants.{Weight, Refused}
+use Rattle.refusals.specs.declared.Refusal.{Refusal}
+use Rattle.refusals.specs.declared.Refusal.TheVariants.{Misshapen, UnlikeViews}
 
 -- the voter of an index counts: an equivocation in either view, or targets that differ
 unfoldable pub apart : List ℕ → List ℕ → List ℕ → List ℕ → ℕ → Bool
@@ -63,8 +63,8 @@ by_id ids (once x) = once (col ids x)
 by_id ids (twice x) = twice (col ids x)
 
 -- the call
-unfoldable pub views : Round → Round → Views
+unfoldable pub views : Round → Round → Result ℕ Refusal
 views a b =
     cond (shaped a)
-    (cond (shaped b) (cond (agree a b) (Weight (two_views (voters a) (precommits a) (precommits b))) (Refused 16)) (Refused 9))
-    (Refused 9)
+    (cond (shaped b) (cond (agree a b) (Ok (two_views (voters a) (precommits a) (precommits b))) (Err UnlikeViews)) (Err Misshapen))
+    (Err Misshapen)

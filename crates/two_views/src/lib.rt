@@ -8,17 +8,11 @@ ghost use Rattle.two_views.specs.Views.{apart, differing, same, same_voters, sam
 
 use blocks::BlockTable;
 use context::Phase;
+use refusals::Refusal;
 use round::Round;
 use sizes::{VOTERS, VOTES};
 use voter_set::VoterSet;
 use weights::VoteWeight;
-
-// The weight, or the number of the refusal.
-#[derive(Clone, Copy)]
-pub enum Views {
-    Weight(u64),
-    Refused(u8),
-}
 
 // Whether the voter of an index counts: it equivocated in either view, or it has a vote in both and their targets differ. One vote in one
 // view and silence in the other is no evidence.
@@ -173,23 +167,23 @@ fn agree(one: Round, other: Round) -> bool
 
 // The weight of the voters who equivocated in precommits in either of two views of one round, or whose precommits differ in target
 // between them.
-pub fn two_views(one: Round, other: Round) -> Views
+pub fn two_views(one: Round, other: Round) -> Result<u64, Refusal>
     ensures { result ≡ views one other }
 {
     if !one.is_round() {
-        return Views::Refused(9);
+        return Err(Refusal::Misshapen);
     }
     if !other.is_round() {
-        return Views::Refused(9);
+        return Err(Refusal::Misshapen);
     }
     if !agree(one, other) {
-        return Views::Refused(16);
+        return Err(Refusal::UnlikeViews);
     }
     let context = one.context;
     let voters = context.voters;
     let votes = one.votes;
     let other_votes = other.votes;
-    Views::Weight(differing(
+    Ok(differing(
         &votes.counts,
         &votes.first_block,
         &other_votes.counts,

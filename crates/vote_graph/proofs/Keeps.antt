@@ -14,15 +14,15 @@ use Rattle.vote_insert.specs.Insert.{opened, inserted}
 use Rattle.vote_insert.proofs.Keeps.{sound_inserted}
 use Rattle.vote_insert.proofs.Opens.{sound_opened}
 use Rattle.vote_graph.specs.declared.VoteGraph.{VoteGraph}
-use Rattle.vote_graph.specs.declared.Answer.TheVariants as answer
-use Rattle.vote_graph.specs.declared.named.Target.{Target}
-use Rattle.vote_graph.specs.declared.named.Target.TheVariants as target_is
 use Rattle.vote_graph.specs.Shape.{columns, graph_of, is_graph, Standing}
 use Rattle.vote_graph.specs.Target.{target, on_target}
 use Rattle.vote_graph.specs.Calls.{voted, refused, placed, insert}
 use Rattle.vote_graph.proofs.Shapes.{columns_of, table_falls, is_graph_means, means_is_graph}
 use Rattle.vote_graph.proofs.Standings.{apart_in, target_stands}
 use Rattle.vote_graph.proofs.Clears.{clear_opened, clear_inserted}
+use Rattle.std.specs.Prelude.{Result, Ok, Err}
+use Rattle.refusals.specs.declared.Refusal.{Refusal}
+use Rattle.refusals.specs.declared.Refusal.TheVariants.{Misshapen}
 
 -- columns that are sound and clear make a graph that keeps its shape
 pub graph_kept : (t : BlockTable) (base : ℕ) (c : Columns) → T (tabled t) → Sound t.parents t.ids base t.count c → Clear base c
@@ -49,24 +49,24 @@ module _ (g : VoteGraph) (t : BlockTable) (id bit : ℕ) where
   unfolding insert
   insert_keeps h = gate (is_graph g t) refl
     where
-      go : is_graph g t ≡ true → (x : Target) → target t.ids t.parents t.count g.base id ≡ x → T (is_graph (on_target x (placed g t bit) (refused g)).graph t)
-      go q (target_is.At k) e = voted_kept g t k bit (target_stands g t q id k e)
-      go q (target_is.Refused n) e = h
+      go : is_graph g t ≡ true → (x : Result ℕ Refusal) → target t.ids t.parents t.count g.base id ≡ x → T (is_graph (on_target x (placed g t bit) (refused g)).graph t)
+      go q (Ok k) e = voted_kept g t k bit (target_stands g t q id k e)
+      go q (Err n) e = h
 
       gate : (b : Bool) → is_graph g t ≡ b
-          → T (is_graph (cond b (on_target (target t.ids t.parents t.count g.base id) (placed g t bit) (refused g)) (refused g 9)).graph t)
+          → T (is_graph (cond b (on_target (target t.ids t.parents t.count g.base id) (placed g t bit) (refused g)) (refused g Misshapen)).graph t)
       gate true q = go q (target t.ids t.parents t.count g.base id) refl
       gate false q = h
 
-  pub insert_refused : (n : ℕ) → (insert g t id bit).answer ≡ answer.Refused n → (insert g t id bit).graph ≡ g
+  pub insert_refused : (n : ℕ) → (insert g t id bit).answer ≡ Err n → (insert g t id bit).graph ≡ g
   unfolding insert
   insert_refused n e = gate (is_graph g t) e
     where
-      go : (x : Target) → (on_target x (placed g t bit) (refused g)).answer ≡ answer.Refused n → (on_target x (placed g t bit) (refused g)).graph ≡ g
-      go (target_is.At k) q = absurd (let z : ◌≡◌ {A = ℕ} 0 1 = cc in omega arith)
-      go (target_is.Refused m) q = refl
+      go : (x : Result ℕ Refusal) → (on_target x (placed g t bit) (refused g)).answer ≡ Err n → (on_target x (placed g t bit) (refused g)).graph ≡ g
+      go (Ok k) q = absurd (let z : ◌≡◌ {A = ℕ} 0 1 = cc in omega arith)
+      go (Err m) q = refl
 
-      gate : (b : Bool) → (cond b (on_target (target t.ids t.parents t.count g.base id) (placed g t bit) (refused g)) (refused g 9)).answer ≡ answer.Refused n
-          → (cond b (on_target (target t.ids t.parents t.count g.base id) (placed g t bit) (refused g)) (refused g 9)).graph ≡ g
+      gate : (b : Bool) → (cond b (on_target (target t.ids t.parents t.count g.base id) (placed g t bit) (refused g)) (refused g Misshapen)).answer ≡ Err n
+          → (cond b (on_target (target t.ids t.parents t.count g.base id) (placed g t bit) (refused g)) (refused g Misshapen)).graph ≡ g
       gate true q = go (target t.ids t.parents t.count g.base id) q
       gate false q = refl

@@ -12,16 +12,12 @@ use Rattle.loops.proofs.Tests.{T_true}
 use Rattle.grandpa.specs.Tree.{below}
 use Rattle.grandpa.proofs.Trees.{below_refl}
 use Rattle.blocks.specs.declared.BlockTable.{BlockTable}
-use Rattle.blocks.specs.declared.Place.{Place}
-use Rattle.blocks.specs.declared.Place.TheVariants as place
 use Rattle.blocks.specs.Add.{place_of, on_place}
 use Rattle.block_laws.proofs.Adds.{found_stands}
 use Rattle.graph.specs.Ghost as steps
 use Rattle.graph.specs.Graph.{tally}
 use Rattle.nodes.specs.Nodes.{col, flag, Falls, passes}
-use Rattle.nodes.specs.Columns.{Columns, Sound, view, as_found}
-use Rattle.nodes.specs.declared.Found.{Found}
-use Rattle.nodes.specs.declared.Found.TheVariants as found
+use Rattle.nodes.specs.Columns.{Columns, Sound, view}
 use Rattle.nodes.specs.declared.Question.{Question}
 use Rattle.graph_rows.specs.declared.Row.{Row}
 use Rattle.graph_rows.specs.Rows.{words_of, rows_of}
@@ -31,24 +27,25 @@ use Rattle.vote_search.specs.declared.Tally.{Tally}
 use Rattle.vote_search.specs.Searches.{tallied, unlisted, Stands}
 use Rattle.vote_search.proofs.Ancestors.{tallied_is}
 use Rattle.vote_graph.specs.declared.VoteGraph.{VoteGraph}
-use Rattle.vote_graph.specs.declared.named.Target.{Target}
-use Rattle.vote_graph.specs.declared.named.Target.TheVariants.{At, Refused}
 use Rattle.vote_graph.specs.Shape.{lent, columns, graph_with, graph_of, is_graph, Standing}
 use Rattle.vote_graph.specs.Target.{in_base, target, start, on_target}
 use Rattle.vote_graph.specs.Calls.{voted, tally_of, ancestor_of, ghost_of}
 use Rattle.vote_graph.proofs.Shapes.{Kept, is_graph_means}
+use Rattle.std.specs.Prelude.{Option, Some, None, Result, Ok, Err}
+use Rattle.refusals.specs.declared.Refusal.{Refusal}
+use Rattle.refusals.specs.declared.Refusal.TheVariants.{OffTheBase, UnknownTarget}
 
-at_most_one : {n k : ℕ} → ◌≡◌ {A = Target} (Refused n) (At k) → ⊥
+at_most_one : {n k : ℕ} → ◌≡◌ {A = Result ℕ Refusal} (Err n) (Ok k) → ⊥
 at_most_one e = let z : ◌≡◌ {A = ℕ} 0 1 = cc in omega arith
 
-same_place : {j k : ℕ} → ◌≡◌ {A = Target} (At j) (At k) → j ≡ k
-same_place e = ap (λ (x : Target). on_target x (λ n. n) (λ n. n)) e
+same_place : {j k : ℕ} → ◌≡◌ {A = Result ℕ Refusal} (Ok j) (Ok k) → j ≡ k
+same_place e = ap (λ (x : Result ℕ Refusal). on_target x (λ n. n) (λ n. n)) e
 
-in_base_at : (parents : List ℕ) (base j k : ℕ) → in_base parents base j ≡ At k → (j ≡ k) × T (below (col parents) base j)
+in_base_at : (parents : List ℕ) (base j k : ℕ) → in_base parents base j ≡ Ok k → (j ≡ k) × T (below (col parents) base j)
 unfolding in_base
 in_base_at parents base j k e = go (below (col parents) base j) refl e
   where
-    go : (b : Bool) → below (col parents) base j ≡ b → cond b (At j) (Refused 13) ≡ At k → (j ≡ k) × T (below (col parents) base j)
+    go : (b : Bool) → below (col parents) base j ≡ b → cond b (Ok j) (Err OffTheBase) ≡ Ok k → (j ≡ k) × T (below (col parents) base j)
     go true q r = (same_place r, T_true q)
     go false q r = absurd (at_most_one r)
 
@@ -62,34 +59,34 @@ module _ (g : VoteGraph) (t : BlockTable) (h : is_graph g t ≡ true) where
   pub gate_few : t.count ≤ BLOCKS
   gate_few = kept.table.few
 
-  stands_in : (j k : ℕ) → j < t.count → in_base t.parents g.base j ≡ At k → Standing g t k
+  stands_in : (j k : ℕ) → j < t.count → in_base t.parents g.base j ≡ Ok k → Standing g t k
   stands_in j k l e =
       let r = in_base_at t.parents g.base j k e in
       subst (Standing g t) r.0 (record { shaped = T_true h; inside = l; in_base = r.1 })
 
-  pub found_in : (id k : ℕ) → place_of t.ids t.count id ≡ place.At k → k < t.count
+  pub found_in : (id k : ℕ) → place_of t.ids t.count id ≡ Some k → k < t.count
   found_in id k e = (found_stands t kept.table id k e).inside
 
-  pub target_stands : (id k : ℕ) → target t.ids t.parents t.count g.base id ≡ At k → Standing g t k
+  pub target_stands : (id k : ℕ) → target t.ids t.parents t.count g.base id ≡ Ok k → Standing g t k
   unfolding target
   target_stands id k e = go (place_of t.ids t.count id) refl e
     where
-      go : (p : Place) → place_of t.ids t.count id ≡ p → on_place p (in_base t.parents g.base) (Refused 11) ≡ At k → Standing g t k
-      go (place.At j) q r = stands_in j k (found_in id j q) r
-      go place.Nothing q r = absurd (at_most_one r)
+      go : (p : Option ℕ) → place_of t.ids t.count id ≡ p → on_place p (in_base t.parents g.base) (Err UnknownTarget) ≡ Ok k → Standing g t k
+      go (Some j) q r = stands_in j k (found_in id j q) r
+      go None q r = absurd (at_most_one r)
 
-  pub start_stands : (from : Found) (k : ℕ) → start t.parents t.count g.base from ≡ At k → Standing g t k
+  pub start_stands : (from : Option ℕ) (k : ℕ) → start t.parents t.count g.base from ≡ Ok k → Standing g t k
   unfolding start
-  start_stands found.Nothing k e =
+  start_stands None k e =
       subst (Standing g t) (same_place e)
       (record {
         shaped = T_true h;
         inside = kept.sound.nodes.tabled g.base kept.sound.nodes.base_used;
         in_base = below_refl (col t.parents) gate_falls g.base;
       })
-  start_stands (found.At j) k e = go (ltb j t.count) refl e
+  start_stands (Some j) k e = go (ltb j t.count) refl e
     where
-      go : (b : Bool) → ltb j t.count ≡ b → cond b (in_base t.parents g.base j) (Refused 11) ≡ At k → Standing g t k
+      go : (b : Bool) → ltb j t.count ≡ b → cond b (in_base t.parents g.base j) (Err UnknownTarget) ≡ Ok k → Standing g t k
       go true q r = stands_in j k (ltb→lt j t.count (T_true q)) r
       go false q r = absurd (at_most_one r)
 
@@ -135,16 +132,16 @@ module _ (g : VoteGraph) (t : BlockTable) (k : ℕ) (w : List (List ℕ)) (e : w
   tally_is r q = q ∙ ap (λ (v : List (List ℕ)). tallied t.parents g.used g.above v g.heads g.tips k) e
 
   module _ (weights : List ℕ) (q : Question) where
-    pub ancestor_is : (r : Found)
-        → r ≡ as_found (steps.find_ancestor (col t.parents) (unlisted g.used w g.heads g.tips) g.base (passes weights q) k)
+    pub ancestor_is : (r : Option ℕ)
+        → r ≡ (steps.find_ancestor (col t.parents) (unlisted g.used w g.heads g.tips) g.base (passes weights q) k)
         → r ≡ ancestor_of g t weights q k
     unfolding ancestor_of steps.find_ancestor tally
     ancestor_is r p =
-        p ∙ ap (λ (v : List (List ℕ)). as_found (steps.find_ancestor (col t.parents) (unlisted g.used v g.heads g.tips) g.base (passes weights q) k)) e
+        p ∙ ap (λ (v : List (List ℕ)). (steps.find_ancestor (col t.parents) (unlisted g.used v g.heads g.tips) g.base (passes weights q) k)) e
 
-    pub ghost_is : (r : Found) → r ≡ as_found (steps.find_ghost (col t.parents) (view (lent g w)) (passes weights q) k) → r ≡ ghost_of g t weights q k
+    pub ghost_is : (r : Option ℕ) → r ≡ (steps.find_ghost (col t.parents) (view (lent g w)) (passes weights q) k) → r ≡ ghost_of g t weights q k
     unfolding ghost_of
-    ghost_is r p = p ∙ ap (λ (v : List (List ℕ)). as_found (steps.find_ghost (col t.parents) (view (lent g v)) (passes weights q) k)) e
+    ghost_is r p = p ∙ ap (λ (v : List (List ℕ)). (steps.find_ghost (col t.parents) (view (lent g v)) (passes weights q) k)) e
 
 -- the bits that `cumulative_vote` gives are the graph's
 pub tally_told : (g : VoteGraph) (t : BlockTable) (k : ℕ) → Standing g t k → (tally_of g t k).bits ≡ tally (col t.parents) (view (columns g)) k

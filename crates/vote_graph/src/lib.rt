@@ -5,18 +5,17 @@
 ghost use Rattle.std.specs.Prelude.{◌≡◌};
 ghost use Rattle.vote_insert.specs.Insert.{opened};
 ghost use Rattle.vote_graph.specs.Shape.{graph_of, is_graph, Standing};
-ghost use Rattle.vote_graph.specs.Calls.{voted, insert, tally_of, votes_of, cumulative_vote, as_sought, ancestor_of, find_ancestor, ghost_of, find_ghost};
+ghost use Rattle.vote_graph.specs.Calls.{voted, insert, tally_of, cumulative_vote, ancestor_of, find_ancestor, ghost_of, find_ghost};
 
-use blocks::{BlockTable, Place};
+use blocks::BlockTable;
 use graph_rows::Row;
-use nodes::{Found, Question};
+use nodes::Question;
+use refusals::Refusal;
 use sizes::{BLOCKS, VOTERS, WORDS};
 use vote_search::Tally;
 
 // Where a block stands that a call names, or why it is refused.
 pub mod named;
-
-use named::Target;
 
 // One place a block of the table. Which have a vote-node, the node above each, and its bits; all nodes but the base in the
 // order in which they were listed; the nodes that list none, by rising id. The fields are public, so that the columns can
@@ -33,41 +32,11 @@ pub struct VoteGraph {
     pub tips: usize,
 }
 
-// What inserting a vote gives: the place of its block, or the number of the refusal.
-#[derive(Clone, Copy)]
-pub enum Answer {
-    Placed(u8),
-    Refused(u8),
-}
-
 // The answer and the graph beside it: an enum holds no array.
 #[derive(Clone, Copy)]
 pub struct Inserted {
-    pub answer: Answer,
+    pub answer: Result<u8, Refusal>,
     pub graph: VoteGraph,
-}
-
-// Whether a block is in the graph: it has a node, or is above one and at or below the base.
-#[derive(Clone, Copy)]
-pub enum Votes {
-    Inside,
-    Outside,
-    Refused(u8),
-}
-
-// Who voted at or below a block; no one, where it is not in the graph.
-#[derive(Clone, Copy)]
-pub struct Cumulative {
-    pub answer: Votes,
-    pub bits: [u64; WORDS],
-}
-
-// A block that was looked for.
-#[derive(Clone, Copy)]
-pub enum Sought {
-    At(u8),
-    Nothing,
-    Refused(u8),
 }
 
 impl VoteGraph {
@@ -133,19 +102,19 @@ impl VoteGraph {
     {
         if !self.is_graph(table) {
             return Inserted {
-                answer: Answer::Refused(9),
+                answer: Err(Refusal::Misshapen),
                 graph: self,
             };
         }
         match named::of(&table.ids, &table.parents, table.count, self.base, block) {
-            Target::Refused(number) => Inserted {
-                answer: Answer::Refused(number),
+            Err(refusal) => Inserted {
+                answer: Err(refusal),
                 graph: self,
             },
-            Target::At(place) => {
+            Ok(place) => {
                 let graph = self.voted(table, place, bit);
                 Inserted {
-                    answer: Answer::Placed(place),
+                    answer: Ok(place),
                     graph,
                 }
             }
@@ -191,31 +160,28 @@ impl VoteGraph {
     }
 
     // Who voted at or below a block.
-    pub fn cumulative_vote(self, table: BlockTable, block: u32) -> Cumulative
+    pub fn cumulative_vote(
+        self,
+        table: BlockTable,
+        block: u32,
+    ) -> Result<Option<[u64; WORDS]>, Refusal>
         ensures { result ≡ cumulative_vote self table block }
     {
         if !self.is_graph(table) {
-            return Cumulative {
-                answer: Votes::Refused(9),
-                bits: [0u64; WORDS],
-            };
+            return Err(Refusal::Misshapen);
         }
-        let Place::At(place) = blocks::find(&table.ids, table.count, block) else {
-            return Cumulative {
-                answer: Votes::Refused(11),
-                bits: [0u64; WORDS],
-            };
+        let Some(place) = blocks::find(&table.ids, table.count, block) else {
+            return Err(Refusal::UnknownTarget);
         };
         if !climbs::reaches(&table.parents, self.base, place) {
-            return Cumulative {
-                answer: Votes::Outside,
-                bits: [0u64; WORDS],
-            };
+            return Ok(None);
         }
         let tally = self.tally(table, place);
-        let answer = votes_of(tally.inside);
+        if !tally.inside {
+            return Ok(None);
+        }
         let bits = tally.bits;
-        Cumulative { answer, bits }
+        Ok(Some(bits))
     }
 
     fn tally(self, table: BlockTable, place: u8) -> Tally
@@ -242,19 +208,14 @@ impl VoteGraph {
         weights: &[u64; VOTERS],
         question: Question,
         block: u32,
-    ) -> Sought
+    ) -> Result<Option<u8>, Refusal>
         ensures { result ≡ find_ancestor self table weights.now question block }
     {
         if !self.is_graph(table) {
-            return Sought::Refused(9);
+            return Err(Refusal::Misshapen);
         }
-        match named::of(&table.ids, &table.parents, table.count, self.base, block) {
-            Target::Refused(number) => Sought::Refused(number),
-            Target::At(place) => {
-                let found = self.ancestor(table, weights, question, place);
-                as_sought(found)
-            }
-        }
+        let place = named::of(&table.ids, &table.parents, table.count, self.base, block)?;
+        Ok(self.ancestor(table, weights, question, place))
     }
 
     fn ancestor(
@@ -263,7 +224,7 @@ impl VoteGraph {
         weights: &[u64; VOTERS],
         question: Question,
         place: u8,
-    ) -> Found
+    ) -> Option<u8>
         requires { Standing self table place }
         ensures { result ≡ ancestor_of self table weights.now question place }
     {
@@ -290,20 +251,15 @@ impl VoteGraph {
         table: BlockTable,
         weights: &[u64; VOTERS],
         question: Question,
-        start: Found,
-    ) -> Sought
+        start: Option<u8>,
+    ) -> Result<Option<u8>, Refusal>
         ensures { result ≡ find_ghost self table weights.now question start }
     {
         if !self.is_graph(table) {
-            return Sought::Refused(9);
+            return Err(Refusal::Misshapen);
         }
-        match named::start(&table.parents, table.count, self.base, start) {
-            Target::Refused(number) => Sought::Refused(number),
-            Target::At(place) => {
-                let found = self.heaviest(table, weights, question, place);
-                as_sought(found)
-            }
-        }
+        let place = named::start(&table.parents, table.count, self.base, start)?;
+        Ok(self.heaviest(table, weights, question, place))
     }
 
     fn heaviest(
@@ -312,7 +268,7 @@ impl VoteGraph {
         weights: &[u64; VOTERS],
         question: Question,
         place: u8,
-    ) -> Found
+    ) -> Option<u8>
         requires { Standing self table place }
         ensures { result ≡ ghost_of self table weights.now question place }
     {
@@ -331,23 +287,5 @@ impl VoteGraph {
             question,
             place,
         )
-    }
-}
-
-fn votes_of(inside: bool) -> Votes
-    ensures { result ≡ votes_of inside }
-{
-    if inside {
-        return Votes::Inside;
-    }
-    Votes::Outside
-}
-
-fn as_sought(found: Found) -> Sought
-    ensures { result ≡ as_sought found }
-{
-    match found {
-        Found::At(place) => Sought::At(place),
-        Found::Nothing => Sought::Nothing,
     }
 }

@@ -4,16 +4,8 @@ ghost use Rattle.sizes.specs.Sizes.{BLOCKS};
 ghost use Rattle.nodes.specs.Nodes.{Falls};
 ghost use Rattle.vote_graph.specs.Target.{in_base, target, start};
 
-use blocks::Place;
-use nodes::Found;
+use refusals::Refusal;
 use sizes::BLOCKS;
-
-// A place at or below the base, or the number of the refusal.
-#[derive(Clone, Copy)]
-pub enum Target {
-    At(u8),
-    Refused(u8),
-}
 
 // The block with an id.
 pub fn of<'a>(
@@ -22,36 +14,41 @@ pub fn of<'a>(
     count: usize,
     base: u8,
     block: u32,
-) -> Target
+) -> Result<u8, Refusal>
     requires { (Falls parents.now) × (count ≤ BLOCKS) }
     ensures { result ≡ target ids.now parents.now count base block }
 {
-    let Place::At(place) = blocks::find(ids, count, block) else {
-        return Target::Refused(11);
+    let Some(place) = blocks::find(ids, count, block) else {
+        return Err(Refusal::UnknownTarget);
     };
     in_base(parents, base, place)
 }
 
 // The block at a place, or the base where none is named.
-pub fn start(parents: &[u8; BLOCKS], count: usize, base: u8, from: Found) -> Target
+pub fn start(
+    parents: &[u8; BLOCKS],
+    count: usize,
+    base: u8,
+    from: Option<u8>,
+) -> Result<u8, Refusal>
     requires { Falls parents.now }
     ensures { result ≡ start parents.now count base from }
 {
-    let Found::At(place) = from else {
-        return Target::At(base);
+    let Some(place) = from else {
+        return Ok(base);
     };
     if count <= climbs::wide(place) {
-        return Target::Refused(11);
+        return Err(Refusal::UnknownTarget);
     }
     in_base(parents, base, place)
 }
 
-fn in_base(parents: &[u8; BLOCKS], base: u8, place: u8) -> Target
+fn in_base(parents: &[u8; BLOCKS], base: u8, place: u8) -> Result<u8, Refusal>
     requires { Falls parents.now }
     ensures { result ≡ in_base parents.now base place }
 {
     if !climbs::reaches(parents, base, place) {
-        return Target::Refused(13);
+        return Err(Refusal::OffTheBase);
     }
-    Target::At(place)
+    Ok(place)
 }

@@ -1,7 +1,6 @@
 -- A block's bits by columns that keep the shape rules are the graph's, and the turns of the search towards the base.
 use mathlib.Core.Bool.{Bool, true, false, cond, not, ◌&&◌}
 use mathlib.Core.List.{List, [], ◌∷◌}
-use mathlib.Core.Option.{Option, none, some}
 use mathlib.Core.Path.{◌≡◌, refl, sym, ap, subst, ◌∙◌}
 use mathlib.Core.Logic.{◌≢◌}
 use Prim.Native.Nat.{ℕ, zero, suc, pred, ◌≤◌, ◌<◌}
@@ -28,6 +27,7 @@ use Rattle.vote_search.specs.Searches.{tallied, unlisted}
 use Rattle.nodes.proofs.Lists.{placed_front, placed_count}
 use Rattle.vote_merge.proofs.Turns.{not_swap}
 use Rattle.nodes.proofs.Tied.{found_is}
+use Rattle.std.specs.Prelude.{Option, Some, None}
 
 some_left : (l : List ℕ) → ltb 0 (length l) ≡ not (is_nil l)
 some_left [] = le-ltb 0 0 (omega arith)
@@ -54,7 +54,7 @@ module _ (up : ℕ → ℕ) (falls : (k : ℕ) → up k ≤ pred k) (ok : ℕ �
   search_fuel (suc f) (suc g) b h k l = go (ℕ_discrete b base) (search_fuel f g (up b))
     where
       turn : Option ℕ → Option ℕ
-      turn r = cond (ok b) (some b) (cond (eqb b base) none r)
+      turn r = cond (ok b) (Some b) (cond (eqb b base) None r)
 
       go : Dec (b ≡ base) → (up b < f → up b < g → T (below up base (up b)) → search_up up ok base f (up b) ≡ search_up up ok base g (up b))
           → turn (search_up up ok base f (up b)) ≡ turn (search_up up ok base g (up b))
@@ -62,11 +62,11 @@ module _ (up : ℕ → ℕ) (falls : (k : ℕ) → up k ≤ pred k) (ok : ℕ �
       go (no d) r =
           ap turn (r (omega (arith, falls b, below_le up falls base b l)) (omega (arith, falls b, below_le up falls base b l)) (below_step up falls base b l (λ q. d (sym q))))
 
-  first_here : (b : ℕ) → ok b ≡ true → first_of up ok base b ≡ some b
+  first_here : (b : ℕ) → ok b ≡ true → first_of up ok base b ≡ Some b
   unfolding first_of search_up
   first_here b e = rw e
 
-  first_base : (b : ℕ) → ok b ≡ false → b ≡ base → first_of up ok base b ≡ none
+  first_base : (b : ℕ) → ok b ≡ false → b ≡ base → first_of up ok base b ≡ None
   unfolding first_of search_up
   first_base b e q = rw (e, eq-eqb b base q)
 
@@ -164,16 +164,16 @@ module _ (parents ids : List ℕ) (base count : ℕ) (g : Columns) (sound : Soun
       bits_are : (z : Bool) → ok v.bits ≡ z → ok (tally up (unlisted g.used g.rows g.heads g.tips) b) ≡ z
       bits_are z e = ap ok (tally_unlisted b ∙ sym (tallied_is b l) ∙ sym (ap (λ (t : Tally). t.bits) told)) ∙ e
 
-      pub ancestor_none : v.inside ≡ false → answer b ≡ none
+      pub ancestor_none : v.inside ≡ false → answer b ≡ None
       unfolding find_ancestor
       ancestor_none e = rw (outside_is false e)
 
       module _ (inside : v.inside ≡ true) where
-        pub ancestor_here : ok v.bits ≡ true → answer b ≡ some b
+        pub ancestor_here : ok v.bits ≡ true → answer b ≡ Some b
         unfolding find_ancestor
         ancestor_here e = rw (outside_is true inside) (first_here up sound.parents_fall _ base b (bits_are true e))
 
-        pub ancestor_base : ok v.bits ≡ false → b ≡ base → answer b ≡ none
+        pub ancestor_base : ok v.bits ≡ false → b ≡ base → answer b ≡ None
         unfolding find_ancestor
         ancestor_base e q = rw (outside_is true inside) (first_base up sound.parents_fall _ base b (bits_are false e) q)
 

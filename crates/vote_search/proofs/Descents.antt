@@ -1,7 +1,6 @@
 -- The nodes that follow a block by the columns, and the turns of the search down.
 use mathlib.Core.Bool.{Bool, true, false, cond}
 use mathlib.Core.List.{List}
-use mathlib.Core.Option.{none, some}
 use mathlib.Core.Path.{◌≡◌, refl, sym, ap, subst, ◌∙◌}
 use mathlib.Core.Logic.{◌≢◌}
 use Prim.Native.Nat.{ℕ, zero, suc, pred, ◌≤◌, ◌<◌}
@@ -29,6 +28,7 @@ use Rattle.vote_merge.proofs.Lowers.{lower_kept}
 use Rattle.vote_search.specs.Searches.{tallied, followed, unheaded}
 use Rattle.vote_search.proofs.Ancestors.{tallied_is}
 use Rattle.nodes.proofs.Tied.{listed_is}
+use Rattle.std.specs.Prelude.{Some, None}
 
 length_listed : (above : ℕ → ℕ) (k : ℕ) (xs : List ℕ) (x : ℕ) → length (listed_under above (front k xs) x) ≤ k
 unfolding listed_under
@@ -117,7 +117,7 @@ module _ (parents ids : List ℕ) (base count : ℕ) (g : Columns) (sound : Soun
 
   -- a block that passes
   pub ghost_from : (ok : List ℕ → Bool) (b : ℕ) → ok (tally (col parents) (view g) b) ≡ true → (r : ℕ) → r ≡ descend (col parents) bare ok b
-      → find_ghost (col parents) (view g) ok b ≡ some r
+      → find_ghost (col parents) (view g) ok b ≡ Some r
   unfolding find_ghost
   ghost_from ok b e r q = rw (e, ← descend_unheaded ok b, ← q)
 
@@ -127,9 +127,9 @@ module _ (parents ids : List ℕ) (base count : ℕ) (g : Columns) (sound : Soun
     asked : (z : Bool) → ok v.bits ≡ z → ok (tally (col parents) (view g) b) ≡ z
     asked z e = ap ok (sym (tallied_is parents ids base count g sound b l) ∙ sym (ap (λ (t : Tally). t.bits) told)) ∙ e
 
-    pub ghost_none : ok v.bits ≡ false → find_ghost (col parents) (view g) ok b ≡ none
+    pub ghost_none : ok v.bits ≡ false → find_ghost (col parents) (view g) ok b ≡ None
     unfolding find_ghost
     ghost_none e = rw (asked false e)
 
-    pub ghost_some : ok v.bits ≡ true → (r : ℕ) → r ≡ descend (col parents) bare ok b → find_ghost (col parents) (view g) ok b ≡ some r
+    pub ghost_some : ok v.bits ≡ true → (r : ℕ) → r ≡ descend (col parents) bare ok b → find_ghost (col parents) (view g) ok b ≡ Some r
     ghost_some e = ghost_from ok b (asked true e)

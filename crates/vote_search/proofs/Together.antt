@@ -1,7 +1,6 @@
 -- The turns of a climb that answers two questions.
 use mathlib.Core.Bool.{Bool, true, false, cond, ◌||◌}
 use mathlib.Core.List.{List}
-use mathlib.Core.Option.{Option, none, some}
 use mathlib.Core.Path.{◌≡◌, refl, sym, ap, ◌∙◌}
 use mathlib.Core.Logic.{◌≢◌}
 use Prim.Native.Nat.{ℕ, ◌≤◌, ◌<◌}
@@ -16,36 +15,35 @@ use Rattle.context.specs.declared.Phase.TheVariants.{Precommit}
 use Rattle.context.specs.Votes.{voted, weight_of}
 use Rattle.graph.specs.Graph.{Graph}
 use Rattle.graph.specs.Ghost.{find_ancestor}
-use Rattle.nodes.specs.declared.Found.{Found}
-use Rattle.nodes.specs.declared.Found.TheVariants.{At, Nothing}
 use Rattle.nodes.specs.declared.Condition.TheVariants.{AtLeast, Possible}
 use Rattle.nodes.specs.Nodes.{col, passes}
-use Rattle.nodes.specs.Columns.{Columns, Sound, as_found}
+use Rattle.nodes.specs.Columns.{Columns, Sound}
 use Rattle.vote_search.specs.declared.Tally.{Tally}
 use Rattle.vote_search.specs.declared.Both.{Both}
 use Rattle.vote_search.specs.Searches.{tallied, unlisted, of_precommits, both, or_else, this}
 use Rattle.vote_search.proofs.Ancestors.{ancestor_none, ancestor_here, ancestor_base, ancestor_up}
+use Rattle.std.specs.Prelude.{Option, Some, None}
 
-or_nothing : (o : Found) → or_else o Nothing ≡ o
-or_nothing (At x) = refl
-or_nothing Nothing = refl
+or_nothing : (o : Option ℕ) → or_else o None ≡ o
+or_nothing (Some x) = refl
+or_nothing None = refl
 
-or_or : (o p q : Found) → or_else o (or_else p q) ≡ or_else (or_else o p) q
-or_or (At x) p q = refl
-or_or Nothing p q = refl
+or_or : (o p q : Option ℕ) → or_else o (or_else p q) ≡ or_else (or_else o p) q
+or_or (Some x) p q = refl
+or_or None p q = refl
 
 -- a climb from b that stands at k, with the possible block met so far
-pub record On (up : ℕ → ℕ) (g : Graph) (base : ℕ) (weights equivocations : List ℕ) (p : PossibleToPrecommit) (b k : ℕ) (o : Found) : Type 0 where
+pub record On (up : ℕ → ℕ) (g : Graph) (base : ℕ) (weights equivocations : List ℕ) (p : PossibleToPrecommit) (b k : ℕ) (o : Option ℕ) : Type 0 where
   pub inside : T (below up base k)
   pub weighs :
       (let q = passes weights (of_precommits equivocations (AtLeast p.threshold)) in
       find_ancestor up g base q b ≡ find_ancestor up g base q k)
   pub met :
       (let q = passes weights (of_precommits equivocations (Possible p)) in
-      as_found (find_ancestor up g base q b) ≡ or_else o (as_found (find_ancestor up g base q k)))
+      (find_ancestor up g base q b) ≡ or_else o ((find_ancestor up g base q k)))
 
 pub on_start : (up : ℕ → ℕ) (g : Graph) (base : ℕ) (weights equivocations : List ℕ) (p : PossibleToPrecommit) (b : ℕ) → T (below up base b)
-    → On up g base weights equivocations p b b Nothing
+    → On up g base weights equivocations p b b None
 on_start up g base weights equivocations p b l = record { inside = l; weighs = refl; met = refl }
 
 module _ (parents ids : List ℕ) (base count : ℕ) (g : Columns) (sound : Sound parents ids base count g) (weights equivocations : List ℕ)
@@ -65,18 +63,18 @@ module _ (parents ids : List ℕ) (base count : ℕ) (g : Columns) (sound : Soun
   abbrev answer : (List ℕ → Bool) → ℕ → Option ℕ
   answer ok b = find_ancestor up graph base ok b
 
-  module _ (b k : ℕ) (o : Found) (on : On up graph base weights equivocations p b k o) (v : Tally) (told : v ≡ tallied parents g.used g.above g.rows g.heads g.tips k) where
-    pub on_outside : v.inside ≡ false → record { weighty = Nothing; possible = o } ≡ both up graph base weights equivocations p b
+  module _ (b k : ℕ) (o : Option ℕ) (on : On up graph base weights equivocations p b k o) (v : Tally) (told : v ≡ tallied parents g.used g.above g.rows g.heads g.tips k) where
+    pub on_outside : v.inside ≡ false → record { weighty = None; possible = o } ≡ both up graph base weights equivocations p b
     unfolding both
     on_outside e =
         rw (
           on.weighs ∙ ancestor_none parents ids base count g sound weighty k on.inside v told e,
-          on.met ∙ ap (λ (x : Option ℕ). or_else o (as_found x)) (ancestor_none parents ids base count g sound possible k on.inside v told e) ∙ or_nothing o,
+          on.met ∙ ap (λ (x : Option ℕ). or_else o x) (ancestor_none parents ids base count g sound possible k on.inside v told e) ∙ or_nothing o,
         )
 
     -- a block weighed, and what is met with it
     module _ (in_graph : v.inside ≡ true) (w : ℕ) (weighed : w ≡ weight_of weights (λ i. voted v.bits Precommit i || voted equivocations Precommit i))
-        (o' : Found) (noted : o' ≡ or_else o (this p w k)) where
+        (o' : Option ℕ) (noted : o' ≡ or_else o (this p w k)) where
       weighty_by : (z : Bool) → leb p.threshold w ≡ z → weighty v.bits ≡ z
       unfolding passes
       weighty_by z e = ap (leb p.threshold) (sym weighed) ∙ e
@@ -85,13 +83,13 @@ module _ (parents ids : List ℕ) (base count : ℕ) (g : Columns) (sound : Soun
       unfolding passes
       possible_by z e = ap (enough p) (sym weighed) ∙ e
 
-      possible_here : enough p w ≡ true → answer possible k ≡ some k
+      possible_here : enough p w ≡ true → answer possible k ≡ Some k
       possible_here e = ancestor_here parents ids base count g sound possible k on.inside v told in_graph (possible_by true e)
 
-      met_now : as_found (answer possible k) ≡ this p w k → as_found (answer possible b) ≡ o'
+      met_now : (answer possible k) ≡ this p w k → (answer possible b) ≡ o'
       met_now e = on.met ∙ ap (or_else o) e ∙ sym noted
 
-      pub on_weighty : p.threshold ≤ w → record { weighty = At k; possible = o' } ≡ both up graph base weights equivocations p b
+      pub on_weighty : p.threshold ≤ w → record { weighty = Some k; possible = o' } ≡ both up graph base weights equivocations p b
       unfolding both
       on_weighty h =
           let t : enough p w ≡ true = le-leb p.threshold _ (omega arith) in
@@ -101,7 +99,7 @@ module _ (parents ids : List ℕ) (base count : ℕ) (g : Columns) (sound : Soun
           )
 
       module _ (light : w < p.threshold) where
-        pub on_base : k ≡ base → record { weighty = Nothing; possible = o' } ≡ both up graph base weights equivocations p b
+        pub on_base : k ≡ base → record { weighty = None; possible = o' } ≡ both up graph base weights equivocations p b
         unfolding both
         on_base q =
             rw (
@@ -109,9 +107,9 @@ module _ (parents ids : List ℕ) (base count : ℕ) (g : Columns) (sound : Soun
               met_now (here (enough p w) refl),
             )
           where
-            here : (z : Bool) → enough p w ≡ z → as_found (answer possible k) ≡ cond z (At k) Nothing
-            here true e = ap as_found (possible_here e)
-            here false e = ap as_found (ancestor_base parents ids base count g sound possible k on.inside v told in_graph (possible_by false e) q)
+            here : (z : Bool) → enough p w ≡ z → (answer possible k) ≡ cond z (Some k) None
+            here true e = (possible_here e)
+            here false e = (ancestor_base parents ids base count g sound possible k on.inside v told in_graph (possible_by false e) q)
 
         pub on_up : k ≢ base → (j : ℕ) → j ≡ k → On up graph base weights equivocations p b (up j) o'
         on_up d j i =
@@ -119,10 +117,10 @@ module _ (parents ids : List ℕ) (base count : ℕ) (g : Columns) (sound : Soun
               inside = below_step up sound.parents_fall base k on.inside (λ q. d (sym q));
               weighs = on.weighs ∙ ancestor_up parents ids base count g sound weighty k on.inside v told in_graph (weighty_by false (lt-leb p.threshold w light)) d;
               met =
-                  on.met ∙ ap (or_else o) (here (enough p w) refl) ∙ or_or o (this p w k) (as_found (answer possible (up k)))
-                  ∙ ap (λ (x : Found). or_else x (as_found (answer possible (up k)))) (sym noted);
+                  on.met ∙ ap (or_else o) (here (enough p w) refl) ∙ or_or o (this p w k) ((answer possible (up k)))
+                  ∙ ap (λ (x : Option ℕ). or_else x ((answer possible (up k)))) (sym noted);
             }
           where
-            here : (z : Bool) → enough p w ≡ z → as_found (answer possible k) ≡ or_else (cond z (At k) Nothing) (as_found (answer possible (up k)))
-            here true e = ap as_found (possible_here e)
-            here false e = ap as_found (ancestor_up parents ids base count g sound possible k on.inside v told in_graph (possible_by false e) d)
+            here : (z : Bool) → enough p w ≡ z → (answer possible k) ≡ or_else (cond z (Some k) None) ((answer possible (up k)))
+            here true e = (possible_here e)
+            here false e = (ancestor_up parents ids base count g sound possible k on.inside v told in_graph (possible_by false e) d)

@@ -1,5 +1,5 @@
 -- `cumulative_vote` on lent columns, and what the searches ask of the columns that are lent to them.
-use Rattle.std.specs.Prelude.{Bool, true, cond, not, List, [], ℕ, T}
+use Rattle.std.specs.Prelude.{Bool, true, cond, not, List, [], ℕ, T, Option, Some, None}
 use Rattle.loops.specs.Listing.{front, keep}
 use Rattle.grandpa.specs.Tree.{below}
 use Rattle.grandpa.specs.Possible.{enough}
@@ -8,13 +8,11 @@ use Rattle.context.specs.declared.Phase.TheVariants.{Precommit}
 use Rattle.graph.specs.Search.{nearest}
 use Rattle.graph.specs.Graph.{Graph, join_of}
 use Rattle.graph.specs.Ghost.{is_nil, under, find_ancestor}
-use Rattle.nodes.specs.declared.Found.{Found}
-use Rattle.nodes.specs.declared.Found.TheVariants.{At, Nothing}
 use Rattle.nodes.specs.declared.Condition.{Condition}
 use Rattle.nodes.specs.declared.Condition.TheVariants.{AtLeast, Possible}
 use Rattle.nodes.specs.declared.Question.{Question}
 use Rattle.nodes.specs.Nodes.{col, flag, row, found, listed_under, passes}
-use Rattle.nodes.specs.Columns.{Columns, Sound, as_found}
+use Rattle.nodes.specs.Columns.{Columns, Sound}
 use Rattle.vote_search.specs.declared.Tally.{Tally}
 use Rattle.vote_search.specs.declared.Both.{Both}
 
@@ -54,15 +52,15 @@ of_precommits equivocations c = record { phase = Precommit; condition = c; equiv
 unfoldable pub both : (ℕ → ℕ) → Graph → ℕ → List ℕ → List ℕ → PossibleToPrecommit → ℕ → Both
 both up g base weights equivocations p b =
     record {
-      weighty = as_found (find_ancestor up g base (passes weights (of_precommits equivocations (AtLeast p.threshold))) b);
-      possible = as_found (find_ancestor up g base (passes weights (of_precommits equivocations (Possible p))) b);
+      weighty = (find_ancestor up g base (passes weights (of_precommits equivocations (AtLeast p.threshold))) b);
+      possible = (find_ancestor up g base (passes weights (of_precommits equivocations (Possible p))) b);
     }
 
 -- a block found before, or else one found now
-abbrev pub or_else : Found → Found → Found
-or_else (At b) o = At b
-or_else Nothing o = o
+abbrev pub or_else : Option ℕ → Option ℕ → Option ℕ
+or_else (Some b) o = Some b
+or_else None o = o
 
 -- this block, where its weight makes it possible
-abbrev pub this : PossibleToPrecommit → ℕ → ℕ → Found
-this p weight b = cond (enough p weight) (At b) Nothing
+abbrev pub this : PossibleToPrecommit → ℕ → ℕ → Option ℕ
+this p weight b = cond (enough p weight) (Some b) None

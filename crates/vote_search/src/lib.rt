@@ -6,13 +6,13 @@ ghost use Rattle.sizes.specs.Sizes.{BLOCKS};
 ghost use Rattle.graph.specs.Ghost.{find_ancestor, descend, find_ghost};
 ghost use Rattle.nodes.specs.Nodes.{col, Falls, placed, passes};
 ghost use Rattle.lent.specs.Moment.{given, before, plain};
-ghost use Rattle.nodes.specs.Columns.{graph_at, view, as_found};
+ghost use Rattle.nodes.specs.Columns.{graph_at, view};
 ghost use Rattle.vote_search.specs.Searches.{tallied, followed, Stands, unlisted, unheaded, or_else, this, both};
 
 use climbs::wide;
 use context::Phase;
 use grandpa::PossibleToPrecommit;
-use nodes::{Found, Places, Question};
+use nodes::{Places, Question};
 use sizes::{BLOCKS, VOTERS, WORDS};
 
 // A block's bits, and whether it is in the graph at all.
@@ -25,8 +25,8 @@ pub struct Tally {
 // The first block of threshold weight and the first that can still get it.
 #[derive(Clone, Copy)]
 pub struct Both {
-    pub weighty: Found,
-    pub possible: Found,
+    pub weighty: Option<u8>,
+    pub possible: Option<u8>,
 }
 
 // Who voted at or below a block: its node's own bits, else those of the nodes whose edge holds it.
@@ -73,22 +73,22 @@ pub fn find_ancestor<'a>(
     base: u8,
     question: Question,
     block: u8,
-) -> Found
+) -> Option<u8>
     requires { (order : List ℕ) × (listed : ℕ) × Stands parents.now base (graph_at plain used.now above.now rows.now order listed heads.now tips) block }
-    ensures { result ≡ as_found (find_ancestor (col parents.now) (unlisted used.now rows.now heads.now tips) base (passes weights.now question) block) }
+    ensures { result ≡ find_ancestor (col parents.now) (unlisted used.now rows.now heads.now tips) base (passes weights.now question) block }
 {
     let mut at = block;
     let found = loop {
         let tally = cumulative_vote(parents, used, above, rows, heads, tips, at);
         if !tally.inside {
-            break Found::Nothing;
+            break None;
         }
         let bits = tally.bits;
         if nodes::passes(weights, question, bits) {
-            break Found::At(at);
+            break Some(at);
         }
         if at == base {
-            break Found::Nothing;
+            break None;
         }
         at = parents[wide(at)];
     };
@@ -96,16 +96,16 @@ pub fn find_ancestor<'a>(
 }
 
 // The block found, or else this one where it can still get the threshold.
-fn or_this(found: Found, still: PossibleToPrecommit, weight: u64, block: u8) -> Found
+fn or_this(found: Option<u8>, still: PossibleToPrecommit, weight: u64, block: u8) -> Option<u8>
     ensures { result ≡ or_else found (this still weight block) }
 {
     match found {
-        Found::At(first) => Found::At(first),
-        Found::Nothing => {
+        Some(first) => Some(first),
+        None => {
             if still.holds(weight) {
-                return Found::At(block);
+                return Some(block);
             }
-            Found::Nothing
+            None
         }
     }
 }
@@ -128,13 +128,13 @@ pub fn find_both<'a>(
     requires { (order : List ℕ) × (listed : ℕ) × Stands parents.now base (graph_at plain used.now above.now rows.now order listed heads.now tips) block }
     ensures { result ≡ both (col parents.now) (unlisted used.now rows.now heads.now tips) base weights.now equivocations still block }
 {
-    let mut possible = Found::Nothing;
+    let mut possible = None;
     let mut here = block;
     loop {
         let tally = cumulative_vote(parents, used, above, rows, heads, tips, here);
         if !tally.inside {
             return Both {
-                weighty: Found::Nothing,
+                weighty: None,
                 possible,
             };
         }
@@ -148,13 +148,13 @@ pub fn find_both<'a>(
         possible = or_this(possible, still, weight, here);
         if still.threshold <= weight {
             return Both {
-                weighty: Found::At(here),
+                weighty: Some(here),
                 possible,
             };
         }
         if here == base {
             return Both {
-                weighty: Found::Nothing,
+                weighty: None,
                 possible,
             };
         }
@@ -229,16 +229,16 @@ pub fn find_ghost<'a>(
     weights: &'a [u64; VOTERS],
     question: Question,
     block: u8,
-) -> Found
+) -> Option<u8>
     requires { (base : ℕ) × Stands parents.now base (graph_at given used above rows order listed heads tips) block }
-    ensures { result ≡ as_found (find_ghost (col parents.now) (view (graph_at before used above rows order listed heads tips)) (passes weights.now question) block) }
+    ensures { result ≡ find_ghost (col parents.now) (view (graph_at before used above rows order listed heads tips)) (passes weights.now question) block }
 {
     let start = cumulative_vote(parents, used, above, rows, heads, tips, block);
     let bits = start.bits;
     if !nodes::passes(weights, question, bits) {
-        return Found::Nothing;
+        return None;
     }
-    Found::At(descend(
+    Some(descend(
         parents, used, above, rows, order, listed, weights, question, block,
     ))
 }

@@ -4,7 +4,6 @@
 ghost use Rattle.std.specs.Prelude.{◌≡◌};
 ghost use Rattle.voter_info.specs.Info.{info, look_up};
 
-use columns::Found;
 use weights::{NewVoterWeight, VoterWeight};
 
 // A voter's place in the set, and its weight.
@@ -12,12 +11,6 @@ use weights::{NewVoterWeight, VoterWeight};
 pub struct VoterInfo {
     pub position: usize,
     pub weight: VoterWeight,
-}
-
-#[derive(Clone, Copy)]
-pub enum Lookup {
-    Voter(VoterInfo),
-    Outside,
 }
 
 impl VoterInfo {
@@ -35,25 +28,25 @@ impl VoterInfo {
 }
 
 // The voter with this id, in columns of ids and weights.
-pub fn look_up<'a>(ids: &'a [u32], weights: &'a [u64], count: usize, id: u32) -> Lookup
+pub fn look_up<'a>(ids: &'a [u32], weights: &'a [u64], count: usize, id: u32) -> Option<VoterInfo>
     ensures { result ≡ look_up ids.now weights.now count id }
 {
-    let Found::At(place) = columns::find(ids, count, id) else {
-        return Lookup::Outside;
+    let Some(place) = columns::find(ids, count, id) else {
+        return None;
     };
     if weights.len() <= place {
-        return Lookup::Outside;
+        return None;
     }
     info(place, weights[place])
 }
 
 // A voter has a weight that is not zero: `VoterWeight` has no other. A set that breaks the shape rules may hold a
 // zero, and who stands there is no voter.
-pub fn info(position: usize, weight: u64) -> Lookup
+pub fn info(position: usize, weight: u64) -> Option<VoterInfo>
     ensures { result ≡ info position weight }
 {
     let NewVoterWeight::Weight(weight) = VoterWeight::new(weight) else {
-        return Lookup::Outside;
+        return None;
     };
-    Lookup::Voter(VoterInfo { position, weight })
+    Some(VoterInfo { position, weight })
 }

@@ -11,8 +11,6 @@ use Rattle.loops.specs.Sum.{sum}
 use Rattle.columns.specs.Find.{find, contains}
 use Rattle.columns.specs.Lists.{padded}
 use Rattle.voter_set.specs.declared.Answer.TheVariants.{Made, Refused}
-use Rattle.voter_info.specs.declared.Lookup.TheVariants.{Voter, Outside}
-use Rattle.voter_set.specs.declared.Nth.TheVariants.{Place, Beyond}
 use Rattle.voter_pairs.specs.Voters.{enter, voters, weight_of}
 use Rattle.voter_set.specs.Voters.{new}
 use Rattle.voter_info.specs.Info.{info, look_up}
@@ -20,6 +18,8 @@ use Rattle.voter_set.specs.Lookup.{get, has, nth, nth_mod}
 use Rattle.columns.specs.Blank.{blank}
 use Rattle.voter_shape.specs.Sound.{rising, non_zero, placed, sound}
 use Rattle.voter_set.specs.Good.{good}
+use Rattle.std.specs.Prelude.{Some, None}
+use Rattle.refusals.specs.declared.Refusal.TheVariants.{NoWeight, TooManyVoters, VoterList, WeightOverflow}
 
 -- a zero weight is skipped, equal ids are summed, ids rise
 gathered : voters (5 ∷ 3 ∷ 9 ∷ 3 ∷ []) (1 ∷ 2 ∷ 0 ∷ 40 ∷ []) 4 ≡ record { id = 3; weight = 42 } ∷ record { id = 5; weight = 1 } ∷ []
@@ -32,13 +32,13 @@ given = refl
 
 -- four voters 1 to 4 of weight 1, in any order: round 7's primary is voter 4
 four : ((new (3 ∷ 1 ∷ 4 ∷ 2 ∷ []) (1 ∷ 1 ∷ 1 ∷ 1 ∷ [])).answer ≡ Made)
-    × (nth_mod (new (3 ∷ 1 ∷ 4 ∷ 2 ∷ []) (1 ∷ 1 ∷ 1 ∷ 1 ∷ [])).voters 7 ≡ Place 4 (record { position = 3; weight = record { 0 = 1 } }))
-    × (nth (new (3 ∷ 1 ∷ 4 ∷ 2 ∷ []) (1 ∷ 1 ∷ 1 ∷ 1 ∷ [])).voters 4 ≡ Beyond)
+    × (nth_mod (new (3 ∷ 1 ∷ 4 ∷ 2 ∷ []) (1 ∷ 1 ∷ 1 ∷ 1 ∷ [])).voters 7 ≡ Some (4, (record { position = 3; weight = record { 0 = 1 } })))
+    × (nth (new (3 ∷ 1 ∷ 4 ∷ 2 ∷ []) (1 ∷ 1 ∷ 1 ∷ 1 ∷ [])).voters 4 ≡ None)
 unfolding new voters enter sum padded nth_mod nth info
 four = (refl, refl, refl)
 
-asked : (get (new (5 ∷ 3 ∷ 9 ∷ 3 ∷ []) (1 ∷ 2 ∷ 0 ∷ 40 ∷ [])).voters 3 ≡ Voter (record { position = 0; weight = record { 0 = 42 } }))
-    × (get (new (5 ∷ 3 ∷ 9 ∷ 3 ∷ []) (1 ∷ 2 ∷ 0 ∷ 40 ∷ [])).voters 9 ≡ Outside)
+asked : (get (new (5 ∷ 3 ∷ 9 ∷ 3 ∷ []) (1 ∷ 2 ∷ 0 ∷ 40 ∷ [])).voters 3 ≡ Some (record { position = 0; weight = record { 0 = 42 } }))
+    × (get (new (5 ∷ 3 ∷ 9 ∷ 3 ∷ []) (1 ∷ 2 ∷ 0 ∷ 40 ∷ [])).voters 9 ≡ None)
     × (has (new (5 ∷ 3 ∷ 9 ∷ 3 ∷ []) (1 ∷ 2 ∷ 0 ∷ 40 ∷ [])).voters 5 ≡ true)
 unfolding new voters enter sum padded look_up find contains first any info
 asked = (refl, refl, refl)
@@ -46,12 +46,12 @@ asked = (refl, refl, refl)
 -- the largest total, and one more
 largest : ((new (2 ∷ 1 ∷ []) (18446744073709551614 ∷ 1 ∷ [])).voters.total ≡ 18446744073709551615)
     × ((new (2 ∷ 1 ∷ []) (18446744073709551614 ∷ 1 ∷ [])).voters.threshold ≡ 12297829382473034411)
-    × ((new (2 ∷ 1 ∷ []) (18446744073709551615 ∷ 1 ∷ [])).answer ≡ Refused 2)
+    × ((new (2 ∷ 1 ∷ []) (18446744073709551615 ∷ 1 ∷ [])).answer ≡ Refused WeightOverflow)
 unfolding new voters enter sum padded
 largest = (refl, refl, refl)
 
-refusals : ((new (1 ∷ []) []).answer ≡ Refused 1) × ((new (replicate 257 1) (replicate 257 1)).answer ≡ Refused 1)
-    × ((new [] []).answer ≡ Refused 3) × ((new (1 ∷ 2 ∷ []) (0 ∷ 0 ∷ [])).answer ≡ Refused 3)
+refusals : ((new (1 ∷ []) []).answer ≡ Refused VoterList) × ((new (replicate 257 1) (replicate 257 1)).answer ≡ Refused VoterList)
+    × ((new [] []).answer ≡ Refused NoWeight) × ((new (1 ∷ 2 ∷ []) (0 ∷ 0 ∷ [])).answer ≡ Refused NoWeight)
 unfolding new voters enter sum padded
 refusals = (refl, refl, refl, refl)
 
@@ -60,7 +60,7 @@ down : ℕ → List ℕ
 down zero = []
 down (suc n) = n ∷ down n
 
-sixty_four : ((new (down 64) (replicate 64 1)).answer ≡ Made) × ((new (down 65) (replicate 65 1)).answer ≡ Refused 4)
+sixty_four : ((new (down 64) (replicate 64 1)).answer ≡ Made) × ((new (down 65) (replicate 65 1)).answer ≡ Refused TooManyVoters)
     × ((new (0 ∷ down 64) (replicate 65 1)).answer ≡ Made) × ((new (99 ∷ down 64) (0 ∷ replicate 64 1)).answer ≡ Made)
 unfolding new voters enter sum padded down
 sixty_four = (refl, refl, refl, refl)

@@ -15,7 +15,6 @@ use Rattle.loops.proofs.Sums.{sum_cong, sum_at, sum_some}
 use Rattle.columns.specs.Lists.{padded}
 use Rattle.columns.proofs.Padded.{length_padded, get_padded}
 use Rattle.weights.specs.Weights.{most}
-use Rattle.voter_set.specs.declared.NewVoterSet.{NewVoterSet}
 use Rattle.voter_set.specs.declared.Answer.TheVariants.{Made, Refused}
 use Rattle.totals.specs.Totals.{total_of}
 use Rattle.voter_pairs.specs.Voters.{Pair, voters, weight_of, ids_of, weights_of}
@@ -28,30 +27,34 @@ use Rattle.voter_pairs.proofs.Pairs.{length_ids, length_weights}
 use Rattle.voter_pairs.proofs.Shares.{Live, weight_in, held, rising_pair, live_at, held_at, held_some, sum_weights, voters_rising, voters_live, voters_weight, voters_held}
 use Rattle.voter_laws.proofs.Goods.{means_good}
 use Rattle.voter_laws.proofs.Lookups.{Known, Unknown, get_cases}
+use Rattle.refusals.specs.declared.Refusal.TheVariants.{NoWeight, TooManyVoters, VoterList, WeightOverflow}
+use Rattle.std.specs.Prelude.{Result}
+use Rattle.refusals.specs.declared.Refusal.{Refusal}
+use Rattle.voter_set.specs.declared.VoterSet.{VoterSet}
 
 -- the refusals, each given exactly when the earlier ones are not
 module _ (ids weights : List ℕ) where
-  pub refused_1 : (length ids ≢ length weights) ⊎ (PAIRS < length ids) → new ids weights ≡ refused 1
+  pub refused_1 : (length ids ≢ length weights) ⊎ (PAIRS < length ids) → new ids weights ≡ refused VoterList
   unfolding new
   refused_1 (inl h) = rw (ne_eqb _ _ h)
   refused_1 (inr h) = go (ℕ_discrete (length ids) (length weights))
     where
-      go : Dec (length ids ≡ length weights) → new ids weights ≡ refused 1
+      go : Dec (length ids ≡ length weights) → new ids weights ≡ refused VoterList
       go (yes e) = rw (eq-eqb _ _ e, lt-ltb _ _ h)
       go (no e) = rw (ne_eqb _ _ e)
 
   module _ (same : length ids ≡ length weights) (few : length ids ≤ PAIRS) where
-    pub refused_2 : most < total_of weights → new ids weights ≡ refused 2
+    pub refused_2 : most < total_of weights → new ids weights ≡ refused WeightOverflow
     unfolding new
     refused_2 h = rw (eq-eqb _ _ same, le-ltb _ _ few, lt-ltb _ _ h)
 
     module _ (fits : total_of weights ≤ most) where
-      pub refused_3 : total_of weights ≡ 0 → new ids weights ≡ refused 3
+      pub refused_3 : total_of weights ≡ 0 → new ids weights ≡ refused NoWeight
       unfolding new
       refused_3 h = rw (eq-eqb _ _ same, le-ltb _ _ few, le-ltb _ _ fits, eq-eqb _ 0 h)
 
       module _ (some : total_of weights ≢ 0) where
-        pub refused_4 : VOTERS < length (voters ids weights (length ids)) → new ids weights ≡ refused 4
+        pub refused_4 : VOTERS < length (voters ids weights (length ids)) → new ids weights ≡ refused TooManyVoters
         unfolding new
         refused_4 h = rw (eq-eqb _ _ same, le-ltb _ _ few, le-ltb _ _ fits, ne_eqb _ 0 some, lt-ltb _ _ h)
 
@@ -91,7 +94,7 @@ module _ (ids weights : List ℕ) where
     where
       go : ((n : ℕ) × (new ids weights ≡ refused n)) ⊎ Fit → Fit
       go (inl (n, e)) =
-          let q : Refused n ≡ Made = sym (ap (λ (r : NewVoterSet). r.answer) e) ∙ m in
+          let q : Refused n ≡ Made = sym (ap (λ (r : Result VoterSet Refusal). r.answer) e) ∙ m in
           absurd (let z : ◌≡◌ {A = ℕ} 0 1 = cc in omega arith)
       go (inr f) = f
 
@@ -153,20 +156,20 @@ module _ (ids weights : List ℕ) (m : (new ids weights).answer ≡ Made) where
 
   -- its total is the weight of all pairs
   pub made_total : (new ids weights).voters.total ≡ total_of weights
-  made_total = ap (λ (r : NewVoterSet). r.voters.total) shape
+  made_total = ap (λ (r : Result VoterSet Refusal). r.voters.total) shape
 
   pub made_count : (new ids weights).voters.count ≡ length (voters ids weights (length ids))
-  made_count = ap (λ (r : NewVoterSet). r.voters.count) shape
+  made_count = ap (λ (r : Result VoterSet Refusal). r.voters.count) shape
 
   made_id : (k : ℕ) → get_or (new ids weights).voters.ids k 0 ≡ get_or (ids_of (voters ids weights (length ids))) k 0
-  made_id k = ap (λ (r : NewVoterSet). get_or r.voters.ids k 0) shape ∙ get_padded VOTERS _ k
+  made_id k = ap (λ (r : Result VoterSet Refusal). get_or r.voters.ids k 0) shape ∙ get_padded VOTERS _ k
 
   -- a voter's weight is what the pairs give its id
   pub made_weight : (k : ℕ) → k < (new ids weights).voters.count
       → get_or (new ids weights).voters.weights k 0 ≡ weight_of ids weights (length ids) (get_or (new ids weights).voters.ids k 0)
   made_weight k h =
       let ps = voters ids weights (length ids) in
-      ap (λ (r : NewVoterSet). get_or r.voters.weights k 0) shape ∙ get_padded VOTERS (weights_of ps) k
+      ap (λ (r : Result VoterSet Refusal). get_or r.voters.weights k 0) shape ∙ get_padded VOTERS (weights_of ps) k
       ∙ held_at ps 0 k (voters_rising ids weights (length ids)) (omega (arith, made_count)) ∙ ap (λ (x : ℕ). held x ps) (sym (made_id k))
       ∙ voters_held ids weights _ (length ids)
 

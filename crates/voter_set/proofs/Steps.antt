@@ -12,11 +12,10 @@ use Rattle.voter_pairs.specs.declared.Gathered.{Gathered}
 use Rattle.voter_pairs.specs.Voters.{Pair, ids_of, weights_of, gathered}
 use Rattle.voter_info.proofs.Infos.{info_zero}
 use Rattle.voter_set.specs.declared.VoterSet.{VoterSet}
-use Rattle.voter_set.specs.declared.NewVoterSet.{NewVoterSet}
 use Rattle.voter_set.specs.declared.Answer.TheVariants.{Made}
-use Rattle.voter_set.specs.declared.Nth.TheVariants.{Beyond}
 use Rattle.voter_set.specs.Voters.{laid, refused, seat, seated}
 use Rattle.voter_set.specs.Lookup.{nth}
+use Rattle.std.specs.Prelude.{None}
 
 pub seat_gathered : (ps : List Pair) (t : ℕ) → seat (gathered ps) t ≡ seated ps t
 seat_gathered ps t = go (ltb VOTERS (length ps)) refl
@@ -25,14 +24,14 @@ seat_gathered ps t = go (ltb VOTERS (length ps)) refl
     go true e = rw e
     go false e = rw (e, e)
 
-pub nth_beyond : (s : VoterSet) (n : ℕ) → s.count ≤ n → nth s n ≡ Beyond
+pub nth_beyond : (s : VoterSet) (n : ℕ) → s.count ≤ n → nth s n ≡ None
 unfolding nth
 nth_beyond s n h = rw (le-ltb n s.count h)
 
-pub nth_short : (s : VoterSet) (n : ℕ) → length s.weights ≤ n → nth s n ≡ Beyond
+pub nth_short : (s : VoterSet) (n : ℕ) → length s.weights ≤ n → nth s n ≡ None
 unfolding nth
 nth_short s n h = rw (info_zero n (get_or s.weights n 0) (get_or-eq_default s.weights 0 h)) (go (ltb n s.count))
   where
-    go : (b : Bool) → cond b Beyond Beyond ≡ Beyond
+    go : (b : Bool) → cond b None None ≡ None
     go true = refl
     go false = refl

@@ -10,7 +10,7 @@ use Rattle.context.specs.declared.Phase.{Phase}
 use Rattle.context.specs.declared.Phase.TheVariants.{Prevote, Precommit}
 use Rattle.tracker.specs.declared.Pair.{Pair}
 use Rattle.judging.specs.declared.ImportResult.{ImportResult}
-use Rattle.judging.specs.declared.ImportResult.TheVariants.{Outside, Counted, Duplicated, Equivocated, Ignored, Refused}
+use Rattle.judging.specs.declared.ImportResult.TheVariants.{Outside, Counted, Duplicated, Equivocated, Ignored}
 use Rattle.importing.specs.Import.{Frame, Held, Taken, Ready, import, with_table}
 use Rattle.held_laws.specs.Kept.{Kept, Untaken}
 use Rattle.held_laws.proofs.Parts.{kept_ready}
@@ -19,8 +19,6 @@ use Rattle.held_laws.proofs.Adds.{adding_keeps}
 use Rattle.marks.specs.declared.Mark.{Mark}
 use Rattle.marks.specs.declared.Mark.TheVariants.{Vt, Rt, Bk, Op, Pv, Pc}
 use Rattle.marks.specs.declared.End.TheVariants as end
-use Rattle.marks.specs.declared.Turn.{Turn}
-use Rattle.marks.specs.declared.Turn.TheVariants.{Goes, Over}
 use Rattle.marks.specs.Marks.{size, word}
 use Rattle.runs.specs.Run.{Next, goes, stops, leaves}
 use Rattle.runs.specs.Tried.{Tried, taken_or_not, tried}
@@ -29,6 +27,14 @@ use Rattle.growing.specs.Growing.{grown, added}
 use Rattle.growing.proofs.Adds.{added_tried}
 use Rattle.voting.specs.declared.Kind.TheVariants as kind
 use Rattle.voting.specs.Voting.{Voting, both, pair_in, answered, turn_of, kind_of, counted, with_blocks, voted}
+use Rattle.std.specs.Prelude.{Result, Ok, Err, ⊤}
+use Rattle.refusals.specs.declared.Refusal.{Refusal}
+use Rattle.refusals.specs.declared.Refusal.TheVariants.{OutOfTurn}
+use Rattle.std.specs.declared.ops.ControlFlow.{ControlFlow}
+use Rattle.std.specs.declared.ops.ControlFlow.TheVariants.{Continue, Break}
+use Rattle.marks.specs.declared.End.{End}
+use Rattle.std.specs.declared.ops.ControlFlow.{ControlFlow}
+use Rattle.std.specs.declared.ops.ControlFlow.TheVariants.{Continue, Break}
 
 -- marks by what they are in this turn, and the bytes of their fields
 pub is_block : (m : Mark) → kind.Block ≡ kind_of m → m ≡ Bk
@@ -57,16 +63,16 @@ module _ (f : Frame) (h : Held) where
   cast phase signer p = import f phase signer p h
 
   -- what a vote leaves
-  answered_tried : (i : Held) (a : ImportResult) → ((n : ℕ) → a ≡ Refused n → i ≡ h)
+  answered_tried : (i : Held) (a : Result ImportResult Refusal) → ((n : ℕ) → a ≡ Err n → i ≡ h)
       → record { state = both f i; turn = turn_of a } ≡ taken_or_not (both f h) (answered (both f i) a)
-  answered_tried i (Refused n) same = ap (λ j. record { state = both f j; turn = Over (end.Refused n) }) (same n refl)
-  answered_tried i Outside same = refl
-  answered_tried i Counted same = refl
-  answered_tried i Duplicated same = refl
-  answered_tried i (Equivocated e) same = refl
-  answered_tried i Ignored same = refl
+  answered_tried i (Err n) same = ap (λ j. record { state = both f j; turn = Break (end.Refused n) }) (same n refl)
+  answered_tried i (Ok Outside) same = refl
+  answered_tried i (Ok Counted) same = refl
+  answered_tried i (Ok Duplicated) same = refl
+  answered_tried i (Ok (Equivocated e)) same = refl
+  answered_tried i (Ok Ignored) same = refl
 
-  unmoved : (phase : Phase) (signer : ℕ) (p : Pair) (n : ℕ) → (cast phase signer p).answer ≡ Refused n → (cast phase signer p).held ≡ h
+  unmoved : (phase : Phase) (signer : ℕ) (p : Pair) (n : ℕ) → (cast phase signer p).answer ≡ Err n → (cast phase signer p).held ≡ h
   unmoved phase signer p n e = import_refused f phase signer p h (subst Untaken (sym e) tt)
 
   counted_tried : (phase : Phase) (fs : List ℕ)
@@ -105,7 +111,7 @@ module _ (f : Frame) (h : Held) where
     vote_ready = kept_ready f h k
 
     pub vote_done : (m : Mark) (phase : Phase) (fs : List ℕ) (signer : ℕ) (p : Pair) → kind.Vote phase ≡ kind_of m → signer ≡ word fs 0 → p ≡ pair_in fs
-        → (a : ImportResult) (i : Held) → record { answer = a; held = i } ≡ import f phase signer p h → (x : Turn) → x ≡ turn_of a
+        → (a : Result ImportResult Refusal) (i : Held) → record { answer = a; held = i } ≡ import f phase signer p h → (x : ControlFlow End ⊤) → x ≡ turn_of a
         → record { state = both f i; turn = x } ≡ tried voted (both f h) m fs
     vote_done m phase fs signer p b s q a i e x v =
         ap (λ y. record { state = both f i; turn = y }) v
@@ -117,13 +123,13 @@ module _ (f : Frame) (h : Held) where
     pub block_room : f.table.count ≤ BLOCKS
     block_room = k.table.few
 
-    pub block_done : (m : Mark) (fs : List ℕ) → kind.Block ≡ kind_of m → (t : BlockTable) (x : Turn)
+    pub block_done : (m : Mark) (fs : List ℕ) → kind.Block ≡ kind_of m → (t : BlockTable) (x : ControlFlow End ⊤)
         → record { state = t; turn = x } ≡ tried grown f.table Bk fs
         → record { state = both (with_table f t) h; turn = x } ≡ tried voted (both f h) m fs
     block_done m fs b t x e = ap among e ∙ bk_tried fs ∙ ap (λ y. tried voted (both f h) y fs) (sym (is_block m b))
 
     pub other_done : (m : Mark) (fs : List ℕ) → kind.Other ≡ kind_of m
-        → record { state = both f h; turn = Over (end.Refused 18) } ≡ tried voted (both f h) m fs
+        → record { state = both f h; turn = Break (end.Refused OutOfTurn) } ≡ tried voted (both f h) m fs
     unfolding tried voted
     other_done Vt fs e = refl
     other_done Rt fs e = refl
@@ -153,14 +159,14 @@ module _ (f : Frame) (h : Held) where
     tried_keeps Op fs = k
 
     -- whatever a record leaves keeps the shape
-    pub record_keeps : (m : Mark) (fs : List ℕ) (g : Frame) (i : Held) (x : Turn)
+    pub record_keeps : (m : Mark) (fs : List ℕ) (g : Frame) (i : Held) (x : ControlFlow End ⊤)
         → record { state = both g i; turn = x } ≡ tried voted (both f h) m fs → Kept g i
     record_keeps m fs g i x e = subst (λ (r : Tried Voting). Kept r.state.frame r.state.held) (sym e) (tried_keeps m fs)
 
     -- the same of the step
     pub voted_kept : (m : Mark) (fs : List ℕ) (v : Voting) → voted (both f h) m fs ≡ goes v → Kept v.frame v.held
     unfolding tried
-    voted_kept m fs v e = record_keeps m fs v.frame v.held Goes (ap (taken_or_not (both f h)) (sym e))
+    voted_kept m fs v e = record_keeps m fs v.frame v.held (Continue tt) (ap (taken_or_not (both f h)) (sym e))
 
 -- what holds before each record of the loop
 abbrev pub VotedSoFar : Frame → Held → List ℕ → Frame → Held → ℕ → ℕ → Type 0

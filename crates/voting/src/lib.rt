@@ -15,8 +15,10 @@ ghost use Rattle.voting.specs.Voting.{Voting, both, pair_in, turn_of, kind_of, v
 use context::Phase;
 use importing::Standing;
 use judging::ImportResult;
-use marks::{End, Mark, Record, Turn};
+use marks::{End, Mark, Record};
+use refusals::Refusal;
 use sizes::{BLOCKS, HISTORY, VOTERS, VOTES, WORDS};
+use std::ops::ControlFlow;
 use tracker::Pair;
 
 // What a mark is in this turn.
@@ -30,7 +32,7 @@ pub enum Kind {
 // What a record leaves beside the columns, and whether the turn goes on.
 #[derive(Clone, Copy)]
 struct Took {
-    turn: Turn,
+    turn: ControlFlow<End>,
     blocks: usize,
     standing: Standing,
 }
@@ -58,16 +60,16 @@ fn pair(fields: &[u8]) -> Pair
 }
 
 // Only a refused vote stops a journal: non-voters, duplicates and third pairs do not.
-fn turn(answer: ImportResult) -> Turn
+fn turn(answer: Result<ImportResult, Refusal>) -> ControlFlow<End>
     ensures { result ≡ turn_of answer }
 {
     match answer {
-        ImportResult::Refused(number) => Turn::Over(End::Refused(number)),
-        ImportResult::Outside => Turn::Goes,
-        ImportResult::Counted => Turn::Goes,
-        ImportResult::Duplicated => Turn::Goes,
-        ImportResult::Equivocated(_) => Turn::Goes,
-        ImportResult::Ignored => Turn::Goes,
+        Err(refusal) => ControlFlow::Break(End::Refused(refusal)),
+        Ok(ImportResult::Outside) => ControlFlow::Continue(()),
+        Ok(ImportResult::Counted) => ControlFlow::Continue(()),
+        Ok(ImportResult::Duplicated) => ControlFlow::Continue(()),
+        Ok(ImportResult::Equivocated(_)) => ControlFlow::Continue(()),
+        Ok(ImportResult::Ignored) => ControlFlow::Continue(()),
     }
 }
 
@@ -175,7 +177,7 @@ fn take<'a>(
             }
         }
         Kind::Other => Took {
-            turn: Turn::Over(End::Refused(18)),
+            turn: ControlFlow::Break(End::Refused(Refusal::OutOfTurn)),
             blocks,
             standing,
         },
@@ -269,11 +271,11 @@ pub fn run<'a>(
         grown = took.blocks;
         standing = took.standing;
         match turn {
-            Turn::Goes => {
+            ControlFlow::Continue(()) => {
                 taken = taken + 1;
                 at = at + 2 + fields.len();
             }
-            Turn::Over(end) => {
+            ControlFlow::Break(end) => {
                 return Ran {
                     blocks: grown,
                     standing,

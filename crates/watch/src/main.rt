@@ -5,7 +5,6 @@
 ghost use Rattle.std.specs.Prelude.{◌≡◌, IfOk};
 
 use feeding::Replay;
-use listing::Written;
 use std::io::{Result, Stdin};
 use streams::{Moved, Outputs};
 
@@ -18,7 +17,7 @@ struct Piece {
 // The answers of a replay: its lines but for the last, `tail 0`, which has seven bytes.
 fn print(to: Outputs, replay: Replay) -> Result<()> {
     let mut out = [0u8; 512];
-    let Written::Bytes(size) = report::print(replay, &mut out) else {
+    let Ok(size) = report::print(replay, &mut out) else {
         return Ok(());
     };
     if 512 < size {
@@ -95,7 +94,7 @@ fn run(input: Stdin, to: Outputs) -> Result<()> {
         streams::unread(to, b"watch: standard input", moved);
         return Ok(());
     };
-    let Written::Bytes(size) = report::print(read.replay, &mut out) else {
+    let Ok(size) = report::print(read.replay, &mut out) else {
         return Ok(());
     };
     if 512 < size {

@@ -5,10 +5,10 @@ pub returns-in_default : goal.returns-in_default
 returns-in_default c = untested_none _ _ _ _ _ _ c.in_default.is
 
 pub returns-then-block-g : goal.returns-then-block-g
-returns-then-block-g c = untested_other _ _ _ _ _ _ _ c.in-At.is c.if-block-g.true
+returns-then-block-g c = untested_other _ _ _ _ _ _ _ c.in-Some.is c.if-block-g.true
 
 pub descend-lowest-requires : goal.descend-lowest-requires
-descend-lowest-requires c = (_, _, c.requires.2, stands _ _ _ c.requires.3 _ (told_in _ _ _ c.requires.4 _ c.in-At.is))
+descend-lowest-requires c = (_, _, c.requires.2, stands _ _ _ c.requires.3 _ (told_in _ _ _ c.requires.4 _ c.in-Some.is))
 
 pub returns : goal.returns
-returns c = untested_end _ _ _ _ _ _ _ c.in-At.is c.if-block-g.false _ c.descend-lowest.ensures
+returns c = untested_end _ _ _ _ _ _ _ c.in-Some.is c.if-block-g.false _ c.descend-lowest.ensures

@@ -12,7 +12,7 @@ pub returns-in_default-place : goal.returns-in_default-place
 unfolding step
 returns-in_default-place c =
     record {
-      fact = rw (place_not_there _ _ _ (sym c.place.ensures ∙ c.in-Nothing.is), sym c.place-2.ensures ∙ c.in_default-place.is);
+      fact = rw (place_not_there _ _ _ (sym c.place.ensures ∙ c.in-None.is), sym c.place-2.ensures ∙ c.in_default-place.is);
       slots_after = refl;
       indexed = c.requires;
     }
@@ -20,9 +20,9 @@ returns-in_default-place c =
 pub returns : goal.returns
 unfolding step
 returns c =
-    let new = sym c.place.ensures ∙ c.in-Nothing.is in
+    let new = sym c.place.ensures ∙ c.in-None.is in
     record {
-      fact = rw (place_not_there _ _ _ new, sym c.place-2.ensures ∙ c.in-At.is) c.append-answer.ensures;
+      fact = rw (place_not_there _ _ _ new, sym c.place-2.ensures ∙ c.in-Some.is) c.append-answer.ensures;
       slots_after = c.mark.ensures;
       indexed = append_indexed _ _ _ _ new c.requires _ _ c.append-answer.ensures _ c.mark.ensures;
     }

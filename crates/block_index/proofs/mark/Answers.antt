@@ -5,5 +5,5 @@ use Rattle.block_index.proofs.mark.Goals as goal
 pub bounds-slots-slot : goal.bounds-slots-slot
 bounds-slots-slot c = omega (arith, c.slot.ensures, slot_small c.args.id)
 
-pub returns-in-Placed : goal.returns-in-Placed
-returns-in-Placed c = rw (c.in-Placed.is, c.slot.ensures)
+pub returns-in-Ok : goal.returns-in-Ok
+returns-in-Ok c = rw (c.in-Ok.is, c.slot.ensures)

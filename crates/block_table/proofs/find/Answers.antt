@@ -17,4 +17,4 @@ returns-in_default c = rw (sym c.is_table.ensures ∙ c.if-not-is_table.false, s
 
 pub returns : goal.returns
 unfolding find
-returns c = rw (sym c.is_table.ensures ∙ c.if-not-is_table.false, sym c.find.ensures ∙ c.in-At.is)
+returns c = rw (sym c.is_table.ensures ∙ c.if-not-is_table.false, sym c.find.ensures ∙ c.in-Some.is)

@@ -12,4 +12,4 @@ returns-in_default c = rw (sym c.contains.ensures ∙ c.if-contains.false, sym c
 
 pub returns : goal.returns
 unfolding step
-returns c = rw (sym c.contains.ensures ∙ c.if-contains.false, sym c.find.ensures ∙ c.in-At.is) c.append.ensures
+returns c = rw (sym c.contains.ensures ∙ c.if-contains.false, sym c.find.ensures ∙ c.in-Some.is) c.append.ensures

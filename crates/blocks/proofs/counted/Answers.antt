@@ -1,4 +1,4 @@
 use Rattle.blocks.proofs.counted.Goals as goal
 
-pub returns-in-Placed : goal.returns-in-Placed
-returns-in-Placed c = rw c.in-Placed.is
+pub returns-in-Ok : goal.returns-in-Ok
+returns-in-Ok c = rw c.in-Ok.is

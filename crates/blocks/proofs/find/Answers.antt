@@ -9,8 +9,8 @@ unfolding place_of
 returns-in_default c = rw (sym c.find.ensures ∙ c.in_default.is)
 
 pub overflow_cast-result : goal.overflow_cast-result
-overflow_cast-result c = omega (arith, (find_at _ _ _ _ (sym c.find.ensures ∙ c.in-At.is)).inside, c.requires)
+overflow_cast-result c = omega (arith, (find_at _ _ _ _ (sym c.find.ensures ∙ c.in-Some.is)).inside, c.requires)
 
 pub returns : goal.returns
 unfolding place_of
-returns c = rw (sym c.find.ensures ∙ c.in-At.is)
+returns c = rw (sym c.find.ensures ∙ c.in-Some.is)

@@ -36,8 +36,8 @@ overflow_add-taken c = (going_fits grown _ _ _ _ _ _ _ c.loop-mark.invariant.0 (
 pub overflow_add-at : goal.overflow_add-at
 overflow_add-at c = (going_fits grown _ _ _ _ _ _ _ c.loop-mark.invariant.0 (sym c.read.ensures ∙ c.in-Whole.is) c.fields-fields.ensures c.well_formed.1.1.1.1.0.0).mark
 
-pub overflow_add-at-in-Goes : goal.overflow_add-at-in-Goes
-overflow_add-at-in-Goes c = (going_fits grown _ _ _ _ _ _ _ c.loop-mark.invariant.0 (sym c.read.ensures ∙ c.in-Whole.is) c.fields-fields.ensures c.well_formed.1.1.1.1.0.0).place
+pub overflow_add-at-in-Continue : goal.overflow_add-at-in-Continue
+overflow_add-at-in-Continue c = (going_fits grown _ _ _ _ _ _ _ c.loop-mark.invariant.0 (sym c.read.ensures ∙ c.in-Whole.is) c.fields-fields.ensures c.well_formed.1.1.1.1.0.0).place
 
 pub loop-mark-smaller : goal.loop-mark-smaller
 loop-mark-smaller c = (going_fits grown _ _ _ _ _ _ _ c.loop-mark.invariant.0 (sym c.read.ensures ∙ c.in-Whole.is) c.fields-fields.ensures c.well_formed.1.1.1.1.0.0).less
@@ -45,13 +45,13 @@ loop-mark-smaller c = (going_fits grown _ _ _ _ _ _ _ c.loop-mark.invariant.0 (s
 pub loop-mark-preserved : goal.loop-mark-preserved
 loop-mark-preserved c = (
   going_on grown _ _ _ _ _ _ _ _ c.loop-mark.invariant.0 (sym c.read.ensures ∙ c.in-Whole.is) c.fields-fields.ensures
-      (tried_goes grown _ _ _ _ _ c.take-took.ensures.fact c.in-Goes.is),
+      (tried_goes grown _ _ _ _ _ c.take-took.ensures.fact c.in-Continue.is),
   c.take-took.ensures.indexed,
 )
 
-pub returns-in-Over : goal.returns-in-Over
-returns-in-Over c =
+pub returns-in-Break : goal.returns-in-Break
+returns-in-Break c =
     record {
-      fact = going_over grown _ _ _ _ _ _ _ _ _ _ c.loop-mark.invariant.0 (sym c.read.ensures ∙ c.in-Whole.is) c.fields-fields.ensures c.take-took.ensures.fact c.in-Over.is;
+      fact = going_over grown _ _ _ _ _ _ _ _ _ _ c.loop-mark.invariant.0 (sym c.read.ensures ∙ c.in-Whole.is) c.fields-fields.ensures c.take-took.ensures.fact c.in-Break.is;
       blocks_bound = (c.take-took.ensures.indexed.few, c.loop-mark.invariant.0.fewer, c.loop-mark.invariant.0.within);
     }

@@ -2,5 +2,5 @@ use mathlib.Core.Path.{sym, ap}
 use Rattle.growing.specs.Growing.{turn_of}
 use Rattle.growing.proofs.turn.Goals as goal
 
-pub returns-in-Refused : goal.returns-in-Refused
-returns-in-Refused c = sym (ap turn_of c.in-Refused.is)
+pub returns-in-Err : goal.returns-in-Err
+returns-in-Err c = sym (ap turn_of c.in-Err.is)

@@ -28,13 +28,13 @@ pub slice_bounds-from_votes-count : goal.slice_bounds-from_votes-count
 slice_bounds-from_votes-count c = omega (arith, (whole_means _ _ c.requires.1).1)
 
 pub from_votes-requires : goal.from_votes-requires
-from_votes-requires c = op_ready _ _ c.requires.0 _ c.requires.1 _ c.fields-fields.ensures _ c.word-base.ensures.0 _ c.long-number.ensures _ (sym c.find.ensures ∙ c.in-At.is) _ c.opened-opened.ensures
+from_votes-requires c = op_ready _ _ c.requires.0 _ c.requires.1 _ c.fields-fields.ensures _ c.word-base.ensures.0 _ c.long-number.ensures _ (sym c.find.ensures ∙ c.in-Some.is) _ c.opened-opened.ensures
 
 pub later-requires : goal.later-requires
 later-requires c = later_fits 1 14 c.args.part.now (omega arith) (whole_means _ _ c.requires.1).1 c.from_votes.result c.from_votes.ensures.1.0 c.from_votes.ensures.1.1 (omega (arith, c.well_formed.1.1.0))
 
 pub returns : goal.returns
 returns c = (
-  op_done _ _ c.requires.0 _ c.requires.1 _ c.fields-fields.ensures _ c.word-base.ensures.0 _ c.long-number.ensures _ (sym c.find.ensures ∙ c.in-At.is) _ c.opened-opened.ensures _ _ c.from_votes.ensures.0 c.later.ensures,
+  op_done _ _ c.requires.0 _ c.requires.1 _ c.fields-fields.ensures _ c.word-base.ensures.0 _ c.long-number.ensures _ (sym c.find.ensures ∙ c.in-Some.is) _ c.opened-opened.ensures _ _ c.from_votes.ensures.0 c.later.ensures,
   later_within 1 14 c.args.part.now (omega arith) (whole_means _ _ c.requires.1).1 c.from_votes.result c.from_votes.ensures.1.0 c.from_votes.ensures.1.1 _ c.later.ensures,
 )

@@ -12,15 +12,15 @@ returns-in_default c = rw (sym c.find.ensures ∙ c.in_default.is)
 
 pub returns-then-numbers-wide : goal.returns-then-numbers-wide
 unfolding judge_first
-returns-then-numbers-wide c = rw (sym c.find.ensures ∙ c.in-At.is, sym c.wide.ensures.0, ne_eqb _ _ c.if-numbers-wide.true)
+returns-then-numbers-wide c = rw (sym c.find.ensures ∙ c.in-Some.is, sym c.wide.ensures.0, ne_eqb _ _ c.if-numbers-wide.true)
 
 pub is_inside-requires : goal.is_inside-requires
 is_inside-requires c = (c.requires.0, c.requires.2)
 
 pub returns-then-not-is_inside : goal.returns-then-not-is_inside
 unfolding judge_first
-returns-then-not-is_inside c = rw (sym c.find.ensures ∙ c.in-At.is, sym c.is_inside.ensures ∙ c.if-not-is_inside.true, sym c.wide.ensures.0, eq-eqb _ _ c.if-numbers-wide.false)
+returns-then-not-is_inside c = rw (sym c.find.ensures ∙ c.in-Some.is, sym c.is_inside.ensures ∙ c.if-not-is_inside.true, sym c.wide.ensures.0, eq-eqb _ _ c.if-numbers-wide.false)
 
 pub returns : goal.returns
 unfolding judge_first
-returns c = rw (sym c.find.ensures ∙ c.in-At.is, sym c.is_inside.ensures ∙ c.if-not-is_inside.false, sym c.wide.ensures.0, eq-eqb _ _ c.if-numbers-wide.false)
+returns c = rw (sym c.find.ensures ∙ c.in-Some.is, sym c.is_inside.ensures ∙ c.if-not-is_inside.false, sym c.wide.ensures.0, eq-eqb _ _ c.if-numbers-wide.false)

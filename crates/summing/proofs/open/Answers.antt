@@ -25,7 +25,7 @@ pub slice_bounds-votes-count : goal.slice_bounds-votes-count
 slice_bounds-votes-count c = omega (arith, (whole_means _ _ c.requires.1).1)
 
 pub votes-requires : goal.votes-requires
-votes-requires c = op_kept 0 _ _ c.requires.0 _ c.requires.1 _ c.fields-fields.ensures _ c.word-base.ensures.0 _ c.long-number.ensures _ (sym c.find.ensures ∙ c.in-At.is)
+votes-requires c = op_kept 0 _ _ c.requires.0 _ c.requires.1 _ c.fields-fields.ensures _ c.word-base.ensures.0 _ c.long-number.ensures _ (sym c.find.ensures ∙ c.in-Some.is)
 
 pub returns : goal.returns
-returns c = op_on _ _ _ c.requires.0 _ c.requires.1 _ c.fields-fields.ensures _ c.word-base.ensures.0 _ c.long-number.ensures _ (sym c.find.ensures ∙ c.in-At.is) _ c.more-seen.ensures _ c.votes.ensures
+returns c = op_on _ _ _ c.requires.0 _ c.requires.1 _ c.fields-fields.ensures _ c.word-base.ensures.0 _ c.long-number.ensures _ (sym c.find.ensures ∙ c.in-Some.is) _ c.more-seen.ensures _ c.votes.ensures

@@ -3,7 +3,6 @@ use mathlib.Core.Path.{◌≡◌, refl, sym, ap, ◌∙◌}
 use native.Mathlib.Omega.{arith}
 use Rattle.grandpa.proofs.Trees.{below_le, below_step}
 use Rattle.nodes.specs.Nodes.{passes}
-use Rattle.nodes.specs.Columns.{as_found}
 use Rattle.vote_search.proofs.Ancestors.{ancestor_none, ancestor_here, ancestor_base, ancestor_up}
 use Rattle.vote_search.proofs.find_ancestor.Goals as goal
 
@@ -33,14 +32,14 @@ loop-question-preserved c =
 
 pub returns-then-not-tally : goal.returns-then-not-tally
 returns-then-not-tally c =
-    sym (ap as_found (c.loop-question.invariant.1 ∙ ancestor_none _ _ _ _ _ c.requires.2.sound _ _ c.loop-question.invariant.0 _ c.cumulative_vote-tally.ensures (not-true _ c.if-not-tally.true)))
+    sym ((c.loop-question.invariant.1 ∙ ancestor_none _ _ _ _ _ c.requires.2.sound _ _ c.loop-question.invariant.0 _ c.cumulative_vote-tally.ensures (not-true _ c.if-not-tally.true)))
 
 pub returns-then-passes : goal.returns-then-passes
 returns-then-passes c =
-    sym (ap as_found (c.loop-question.invariant.1
+    sym ((c.loop-question.invariant.1
     ∙ ancestor_here _ _ _ _ _ c.requires.2.sound _ _ c.loop-question.invariant.0 _ c.cumulative_vote-tally.ensures (not-false _ c.if-not-tally.false) (sym c.passes.ensures ∙ c.if-passes.true)))
 
 pub returns-then-at-base : goal.returns-then-at-base
 returns-then-at-base c =
-    sym (ap as_found (c.loop-question.invariant.1
+    sym ((c.loop-question.invariant.1
     ∙ ancestor_base _ _ _ _ _ c.requires.2.sound _ _ c.loop-question.invariant.0 _ c.cumulative_vote-tally.ensures (not-false _ c.if-not-tally.false) (sym c.passes.ensures ∙ c.if-passes.false) c.if-at-base.true))

@@ -1,5 +1,4 @@
 use mathlib.Core.Path.{sym, ap, ◌∙◌}
-use Rattle.nodes.specs.Columns.{as_found}
 use Rattle.vote_search.proofs.Descents.{ghost_none, ghost_some}
 use Rattle.vote_search.proofs.find_ghost.Goals as goal
 
@@ -8,11 +7,11 @@ cumulative_vote-start-requires c = let s = c.requires.1.sound in (s.parents_fall
 
 pub returns-then-not-passes : goal.returns-then-not-passes
 returns-then-not-passes c =
-    sym (ap as_found (ghost_none _ _ _ _ _ c.requires.1.sound _ _ c.requires.1.in_base _ c.cumulative_vote-start.ensures (sym c.passes.ensures ∙ c.if-not-passes.true)))
+    sym ((ghost_none _ _ _ _ _ c.requires.1.sound _ _ c.requires.1.in_base _ c.cumulative_vote-start.ensures (sym c.passes.ensures ∙ c.if-not-passes.true)))
 
 pub descend-requires : goal.descend-requires
 descend-requires c = (_, _, _, c.requires.1)
 
 pub returns : goal.returns
 returns c =
-    sym (ap as_found (ghost_some _ _ _ _ _ c.requires.1.sound _ _ c.requires.1.in_base _ c.cumulative_vote-start.ensures (sym c.passes.ensures ∙ c.if-not-passes.false) _ c.descend.ensures))
+    sym ((ghost_some _ _ _ _ _ c.requires.1.sound _ _ c.requires.1.in_base _ c.cumulative_vote-start.ensures (sym c.passes.ensures ∙ c.if-not-passes.false) _ c.descend.ensures))

@@ -2,10 +2,10 @@ use mathlib.Core.Path.{sym, ◌∙◌}
 use Rattle.vote_search.proofs.or_this.Goals as goal
 
 pub returns-then-holds : goal.returns-then-holds
-returns-then-holds c = rw (c.in-Nothing.is, sym c.holds.ensures ∙ c.if-holds.true)
+returns-then-holds c = rw (c.in-None.is, sym c.holds.ensures ∙ c.if-holds.true)
 
-pub returns-in-At : goal.returns-in-At
-returns-in-At c = rw c.in-At.is
+pub returns-in-Some : goal.returns-in-Some
+returns-in-Some c = rw c.in-Some.is
 
 pub returns-else-holds : goal.returns-else-holds
-returns-else-holds c = rw (c.in-Nothing.is, sym c.holds.ensures ∙ c.if-holds.false)
+returns-else-holds c = rw (c.in-None.is, sym c.holds.ensures ∙ c.if-holds.false)

@@ -15,10 +15,10 @@ went-replay-requires c =
     let l : c.args.self.journal.round.context.voters.total ≤ most = omega (arith, c.well_formed.0.1.1.0.1.1.1.1.0.1.1.1.0.1.1.0.1.1.1.1.1.1.0) in
     feed_ready c.args.self l (sym c.is_replay.ensures ∙ c.if-not-is_replay.false)
 
-pub returns-in-Refused : goal.returns-in-Refused
+pub returns-in-Err : goal.returns-in-Err
 unfolding fed
-returns-in-Refused c = rw (sym c.is_replay.ensures ∙ c.if-not-is_replay.false, c.in-Refused.is)
+returns-in-Err c = rw (sym c.is_replay.ensures ∙ c.if-not-is_replay.false, c.in-Err.is)
 
-pub returns-in-Open : goal.returns-in-Open
+pub returns-in-Ok : goal.returns-in-Ok
 unfolding fed
-returns-in-Open c = rw (sym c.is_replay.ensures ∙ c.if-not-is_replay.false, c.in-Open.is, c.went-replay.ensures)
+returns-in-Ok c = rw (sym c.is_replay.ensures ∙ c.if-not-is_replay.false, c.in-Ok.is, c.went-replay.ensures)

@@ -16,4 +16,4 @@ pub listed-requires : goal.listed-requires
 listed-requires c = T_true (sym c.is_round.ensures ∙ c.if-not-is_round.false)
 
 pub returns : goal.returns
-returns c = finalizing_done c.args.self _ _ _ (sym c.is_round.ensures ∙ c.if-not-is_round.false) c.in-At.is c.listed.ensures
+returns c = finalizing_done c.args.self _ _ _ (sym c.is_round.ensures ∙ c.if-not-is_round.false) c.in-Some.is c.listed.ensures

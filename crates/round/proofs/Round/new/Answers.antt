@@ -21,4 +21,4 @@ returns-in_default c = rw (c.opened-in_default.ensures, c.no_blocks-in_default.e
 
 pub returns : goal.returns
 unfolding new
-returns c = rw (c.opened-2.ensures, sym c.is_good.ensures ∙ c.if-not-is_good.false, sym c.is_table.ensures ∙ c.if-not-is_table.false, sym c.find.ensures ∙ c.in-At.is)
+returns c = rw (c.opened-2.ensures, sym c.is_good.ensures ∙ c.if-not-is_good.false, sym c.is_table.ensures ∙ c.if-not-is_table.false, sym c.find.ensures ∙ c.in-Some.is)

@@ -20,13 +20,13 @@ reaches-requires c = gate_falls _ _ (sym c.is_graph.ensures ∙ c.if-not-is_grap
 
 pub returns-then-not-reaches : goal.returns-then-not-reaches
 unfolding cumulative_vote
-returns-then-not-reaches c = rw (sym c.is_graph.ensures ∙ c.if-not-is_graph.false, sym c.find.ensures ∙ c.in-At.is, sym c.reaches.ensures ∙ c.if-not-reaches.true)
+returns-then-not-reaches c = rw (sym c.is_graph.ensures ∙ c.if-not-is_graph.false, sym c.find.ensures ∙ c.in-Some.is, sym c.reaches.ensures ∙ c.if-not-reaches.true)
 
 pub tally-tally-requires : goal.tally-tally-requires
 tally-tally-requires c =
     let h = sym c.is_graph.ensures ∙ c.if-not-is_graph.false in
-    record { shaped = T_true h; inside = found_in _ _ h _ _ (sym c.find.ensures ∙ c.in-At.is); in_base = T_true (sym c.reaches.ensures ∙ c.if-not-reaches.false) }
+    record { shaped = T_true h; inside = found_in _ _ h _ _ (sym c.find.ensures ∙ c.in-Some.is); in_base = T_true (sym c.reaches.ensures ∙ c.if-not-reaches.false) }
 
 pub returns : goal.returns
 unfolding cumulative_vote
-returns c = rw (sym c.is_graph.ensures ∙ c.if-not-is_graph.false, sym c.find.ensures ∙ c.in-At.is, sym c.reaches.ensures ∙ c.if-not-reaches.false, c.votes_of-answer.ensures, c.tally-tally.ensures)
+returns c = rw (sym c.is_graph.ensures ∙ c.if-not-is_graph.false, sym c.find.ensures ∙ c.in-Some.is, sym c.reaches.ensures ∙ c.if-not-reaches.false, c.votes_of-answer.ensures, c.tally-tally.ensures)

@@ -13,12 +13,12 @@ of-requires c =
     (gate_falls _ _ h, gate_few _ _ h)
 
 pub ancestor-found-requires : goal.ancestor-found-requires
-ancestor-found-requires c = target_stands _ _ (sym c.is_graph.ensures ∙ c.if-not-is_graph.false) _ _ (sym c.of.ensures ∙ c.in-At.is)
+ancestor-found-requires c = target_stands _ _ (sym c.is_graph.ensures ∙ c.if-not-is_graph.false) _ _ (sym c.of.ensures ∙ c.in-Some.is)
 
-pub returns-in-Refused : goal.returns-in-Refused
+pub returns-in-Err : goal.returns-in-Err
 unfolding find_ancestor
-returns-in-Refused c = rw (sym c.is_graph.ensures ∙ c.if-not-is_graph.false, sym c.of.ensures ∙ c.in-Refused.is)
+returns-in-Err c = rw (sym c.is_graph.ensures ∙ c.if-not-is_graph.false, sym c.of.ensures ∙ c.in-Err.is)
 
-pub returns-in-At : goal.returns-in-At
+pub returns-in-Some : goal.returns-in-Some
 unfolding find_ancestor
-returns-in-At c = rw (sym c.is_graph.ensures ∙ c.if-not-is_graph.false, sym c.of.ensures ∙ c.in-At.is, c.as_sought.ensures, c.ancestor-found.ensures)
+returns-in-Some c = rw (sym c.is_graph.ensures ∙ c.if-not-is_graph.false, sym c.of.ensures ∙ c.in-Some.is, c.Ok.ensures, c.ancestor-found.ensures)

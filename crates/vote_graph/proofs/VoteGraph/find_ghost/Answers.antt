@@ -11,12 +11,12 @@ pub start-requires : goal.start-requires
 start-requires c = gate_falls _ _ (sym c.is_graph.ensures ∙ c.if-not-is_graph.false)
 
 pub heaviest-found-requires : goal.heaviest-found-requires
-heaviest-found-requires c = start_stands _ _ (sym c.is_graph.ensures ∙ c.if-not-is_graph.false) _ _ (sym c.start.ensures ∙ c.in-At.is)
+heaviest-found-requires c = start_stands _ _ (sym c.is_graph.ensures ∙ c.if-not-is_graph.false) _ _ (sym c.start.ensures ∙ c.in-Some.is)
 
-pub returns-in-Refused : goal.returns-in-Refused
+pub returns-in-Err : goal.returns-in-Err
 unfolding find_ghost
-returns-in-Refused c = rw (sym c.is_graph.ensures ∙ c.if-not-is_graph.false, sym c.start.ensures ∙ c.in-Refused.is)
+returns-in-Err c = rw (sym c.is_graph.ensures ∙ c.if-not-is_graph.false, sym c.start.ensures ∙ c.in-Err.is)
 
-pub returns-in-At : goal.returns-in-At
+pub returns-in-Some : goal.returns-in-Some
 unfolding find_ghost
-returns-in-At c = rw (sym c.is_graph.ensures ∙ c.if-not-is_graph.false, sym c.start.ensures ∙ c.in-At.is, c.as_sought.ensures, c.heaviest-found.ensures)
+returns-in-Some c = rw (sym c.is_graph.ensures ∙ c.if-not-is_graph.false, sym c.start.ensures ∙ c.in-Some.is, c.Ok.ensures, c.heaviest-found.ensures)

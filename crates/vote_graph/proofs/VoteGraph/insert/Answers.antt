@@ -13,12 +13,12 @@ of-requires c =
     (gate_falls _ _ h, gate_few _ _ h)
 
 pub voted-graph-requires : goal.voted-graph-requires
-voted-graph-requires c = target_stands _ _ (sym c.is_graph.ensures ∙ c.if-not-is_graph.false) _ _ (sym c.of.ensures ∙ c.in-At.is)
+voted-graph-requires c = target_stands _ _ (sym c.is_graph.ensures ∙ c.if-not-is_graph.false) _ _ (sym c.of.ensures ∙ c.in-Some.is)
 
-pub returns-in-Refused : goal.returns-in-Refused
+pub returns-in-Err : goal.returns-in-Err
 unfolding insert
-returns-in-Refused c = rw (sym c.is_graph.ensures ∙ c.if-not-is_graph.false, sym c.of.ensures ∙ c.in-Refused.is)
+returns-in-Err c = rw (sym c.is_graph.ensures ∙ c.if-not-is_graph.false, sym c.of.ensures ∙ c.in-Err.is)
 
-pub returns-in-At : goal.returns-in-At
+pub returns-in-Some : goal.returns-in-Some
 unfolding insert
-returns-in-At c = rw (sym c.is_graph.ensures ∙ c.if-not-is_graph.false, sym c.of.ensures ∙ c.in-At.is, c.voted-graph.ensures)
+returns-in-Some c = rw (sym c.is_graph.ensures ∙ c.if-not-is_graph.false, sym c.of.ensures ∙ c.in-Some.is, c.voted-graph.ensures)

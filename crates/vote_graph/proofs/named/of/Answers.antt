@@ -8,4 +8,4 @@ returns-in_default c = rw (sym c.find.ensures ∙ c.in_default.is)
 
 pub returns : goal.returns
 unfolding target
-returns c = rw (sym c.find.ensures ∙ c.in-At.is, c.in_base.ensures)
+returns c = rw (sym c.find.ensures ∙ c.in-Some.is, c.in_base.ensures)

@@ -8,8 +8,8 @@ returns-in_default c = rw c.in_default.is
 
 pub returns-then-count-wide : goal.returns-then-count-wide
 unfolding start
-returns-then-count-wide c = rw (c.in-At.is, ← c.wide.ensures.0, le-ltb _ _ c.if-count-wide.true)
+returns-then-count-wide c = rw (c.in-Some.is, ← c.wide.ensures.0, le-ltb _ _ c.if-count-wide.true)
 
 pub returns : goal.returns
 unfolding start
-returns c = rw (c.in-At.is, c.in_base.ensures, ← c.wide.ensures.0, lt-ltb _ _ c.if-count-wide.false)
+returns c = rw (c.in-Some.is, c.in_base.ensures, ← c.wide.ensures.0, lt-ltb _ _ c.if-count-wide.false)

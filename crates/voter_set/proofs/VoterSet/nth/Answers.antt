@@ -22,4 +22,4 @@ returns-in_default c = rw (lt-ltb _ _ c.if-self-n.false, sym c.info.ensures ∙ 
 
 pub returns : goal.returns
 unfolding nth
-returns c = rw (lt-ltb _ _ c.if-self-n.false, sym c.info.ensures ∙ c.in-Voter.is)
+returns c = rw (lt-ltb _ _ c.if-self-n.false, sym c.info.ensures ∙ c.in-Some.is)

@@ -1,4 +1,0 @@
-use Rattle.round.proofs.index_number.Goals as goal
-
-pub returns-in-At : goal.returns-in-At
-returns-in-At c = rw c.in-At.is
