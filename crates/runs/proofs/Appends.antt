@@ -1,7 +1,7 @@
 -- Bytes that come behind: a run over some bytes and a run over what it left, with more behind, are the run over all.
 use mathlib.Core.List.{List, ◌++◌}
 use mathlib.Core.Path.{◌≡◌, refl, sym, ap, ◌∙◌}
-use Prim.Native.Nat.{ℕ, ◌+◌, ◌-◌}
+use Prim.Native.Nat.{ℕ, ◌+◌}
 use Rattle.marks.specs.declared.Mark.{Mark}
 use Rattle.marks.specs.declared.Record.TheVariants as is
 use Rattle.marks.specs.declared.End.{End}
@@ -15,6 +15,7 @@ use Rattle.runs.proofs.Counts.{counted_none, counted_twice, counted_ended, count
 use Rattle.runs.proofs.Turns.{ran_unknown, ran_goes, ran_stops, ran_leaves}
 use Rattle.runs.proofs.Inductions.{by_run}
 use Rattle.refusals.specs.declared.Refusal.TheVariants.{UnknownMark}
+use Rattle.refusals.specs.declared.Refusal.{Refusal}
 
 module _ {S : Type 0} (step : S → Mark → List ℕ → Next S) (b : List ℕ) where
   -- the ways to go on, by the end of the run
@@ -22,7 +23,7 @@ module _ {S : Type 0} (step : S → Mark → List ℕ → Next S) (b : List ℕ)
   unfolding continued
   continued_cut r e = rw e
 
-  pub continued_refused : (r : Run S) (k : ℕ) → r.end ≡ Refused k → continued step b r ≡ ended r.state r.count (r.rest ++ b) (Refused k)
+  pub continued_refused : (r : Run S) (k : Refusal) → r.end ≡ Refused k → continued step b r ≡ ended r.state r.count (r.rest ++ b) (Refused k)
   unfolding continued
   continued_refused r k e = rw e
 
@@ -51,7 +52,7 @@ module _ {S : Type 0} (step : S → Mark → List ℕ → Next S) (b : List ℕ)
   run_append =
       by_run step (λ s a r. ran step s (a ++ b) ≡ continued step b r)
       (λ s a e. sym (continued_cut (ended s 0 a Cut) refl ∙ counted_none (ran step s (a ++ b))))
-      (λ s a e. ran_unknown step s (a ++ b) (unknown_more a b e) ∙ sym (continued_refused (ended s 0 a (Refused UnknownMark)) 17 refl))
+      (λ s a e. ran_unknown step s (a ++ b) (unknown_more a b e) ∙ sym (continued_refused (ended s 0 a (Refused UnknownMark)) UnknownMark refl))
       (λ s a m k e q.
       ran_stops step s (a ++ b) m k (whole_more a b m e) (same s a m e ∙ q) ∙ sym (continued_refused (ended s 0 a (Refused k)) k refl))
       (λ s a m e q. ran_leaves step s (a ++ b) m (whole_more a b m e) (same s a m e ∙ q) ∙ sym (continued_left (ended s 0 a Left) refl))
@@ -67,7 +68,7 @@ module _ {S : Type 0} (step : S → Mark → List ℕ → Next S) (b : List ℕ)
       → ran step s (a ++ b) ≡ counted (ran step s a).count (ran step (ran step s a).state ((ran step s a).rest ++ b))
   append_cut s a e = run_append s a ∙ continued_cut (ran step s a) e
 
-  pub append_refused : (s : S) (a : List ℕ) (k : ℕ) → (ran step s a).end ≡ Refused k
+  pub append_refused : (s : S) (a : List ℕ) (k : Refusal) → (ran step s a).end ≡ Refused k
       → ran step s (a ++ b) ≡ ended (ran step s a).state (ran step s a).count ((ran step s a).rest ++ b) (Refused k)
   append_refused s a k e = run_append s a ∙ continued_refused (ran step s a) k e
 

@@ -1,7 +1,7 @@
 -- A run is the fold of its step over the whole records.
 use mathlib.Core.List.{List, [], ◌∷◌}
 use mathlib.Core.Path.{◌≡◌, refl, sym, ap, ◌∙◌}
-use Prim.Native.Nat.{ℕ, suc, ◌+◌, ◌-◌}
+use Prim.Native.Nat.{ℕ, suc, ◌+◌}
 use native.Mathlib.Omega.{arith}
 use lib.ListN.{length, take}
 use lib.Seq.{drop-drop, take-length}
@@ -16,6 +16,7 @@ use Rattle.runs.specs.Parsed.{Entry, parsed, span, rest_after, tail, Folded, fol
 use Rattle.runs.proofs.Inductions.{by_run}
 use Rattle.runs.proofs.Parses.{parsed_cut, parsed_unknown, parsed_whole}
 use Rattle.refusals.specs.declared.Refusal.TheVariants.{UnknownMark}
+use Rattle.refusals.specs.declared.Refusal.{Refusal}
 
 -- before the first record nothing is taken off, and each record takes its bytes off
 pub rest_none : (bs : List ℕ) → rest_after 0 bs ≡ bs
@@ -51,7 +52,7 @@ module _ {S : Type 0} (step : S → Mark → List ℕ → Next S) where
   unfolding folded
   fold_goes s t e es q = rw q
 
-  fold_stops : (s : S) (e : Entry) (es : List Entry) (k : ℕ) → step s e.mark e.fields ≡ stops k
+  fold_stops : (s : S) (e : Entry) (es : List Entry) (k : Refusal) → step s e.mark e.fields ≡ stops k
       → folded step s (e ∷ es) ≡ record { state = s; count = 0; end = Refused k }
   unfolding folded
   fold_stops s e es k q = rw q
@@ -114,7 +115,7 @@ module _ {S : Type 0} (step : S → Mark → List ℕ → Next S) where
       ran_folds s bs
       ∙ rw (c, folded_all s (parsed bs) c, rest_all bs)
 
-  pub folds_refused : (s : S) (bs : List ℕ) (k : ℕ) → (folded step s (parsed bs)).end ≡ Refused k
+  pub folds_refused : (s : S) (bs : List ℕ) (k : Refusal) → (folded step s (parsed bs)).end ≡ Refused k
       → ran step s bs ≡ ended (folded step s (parsed bs)).state (folded step s (parsed bs)).count (rest_after (folded step s (parsed bs)).count bs) (Refused k)
   unfolding after_fold
   folds_refused s bs k c = ran_folds s bs ∙ rw c

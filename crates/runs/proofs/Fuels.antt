@@ -9,13 +9,14 @@ use Rattle.marks.specs.declared.End.TheVariants.{Cut, Refused, Left}
 use Rattle.marks.specs.Marks.{read, fields, after}
 use Rattle.runs.specs.Run.{Next, goes, stops, leaves, ended, run}
 use Rattle.refusals.specs.declared.Refusal.TheVariants.{UnknownMark}
+use Rattle.refusals.specs.declared.Refusal.{Refusal}
 
 module _ {S : Type 0} (step : S → Mark → List ℕ → Next S) where
   pub data Met (s : S) (bs : List ℕ) : Type 0 where
     cut : read bs ≡ is.Cut → Met s bs
     unknown : read bs ≡ is.Unknown → Met s bs
     taken : (m : Mark) (t : S) → read bs ≡ is.Whole m → step s m (fields m bs) ≡ goes t → Met s bs
-    refused : (m : Mark) (k : ℕ) → read bs ≡ is.Whole m → step s m (fields m bs) ≡ stops k → Met s bs
+    refused : (m : Mark) (k : Refusal) → read bs ≡ is.Whole m → step s m (fields m bs) ≡ stops k → Met s bs
     left : (m : Mark) → read bs ≡ is.Whole m → step s m (fields m bs) ≡ leaves → Met s bs
 
   pub met : (s : S) (bs : List ℕ) → Met s bs
@@ -50,7 +51,7 @@ module _ {S : Type 0} (step : S → Mark → List ℕ → Next S) where
   unfolding run
   turn_goes f s t n bs m e q = rw (e, q)
 
-  pub turn_stops : (f : ℕ) (s : S) (n : ℕ) (bs : List ℕ) (m : Mark) (k : ℕ) → read bs ≡ is.Whole m → step s m (fields m bs) ≡ stops k
+  pub turn_stops : (f : ℕ) (s : S) (n : ℕ) (bs : List ℕ) (m : Mark) (k : Refusal) → read bs ≡ is.Whole m → step s m (fields m bs) ≡ stops k
       → run step (suc f) s n bs ≡ ended s n bs (Refused k)
   unfolding run
   turn_stops f s n bs m k e q = rw (e, q)

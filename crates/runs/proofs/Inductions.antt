@@ -14,11 +14,12 @@ use Rattle.runs.specs.Run.{Next, goes, stops, leaves, Run, ended, ran, counted}
 use Rattle.runs.proofs.Fuels.{Met, cut, unknown, taken, refused, left, met}
 use Rattle.runs.proofs.Turns.{ran_cut, ran_unknown, ran_goes, ran_stops, ran_leaves}
 use Rattle.refusals.specs.declared.Refusal.TheVariants.{UnknownMark}
+use Rattle.refusals.specs.declared.Refusal.{Refusal}
 
 module _ {S : Type 0} (step : S → Mark → List ℕ → Next S) (P : S → List ℕ → Run S → Type 0)
     (at_cut : (s : S) (bs : List ℕ) → read bs ≡ is.Cut → P s bs (ended s 0 bs Cut))
     (at_unknown : (s : S) (bs : List ℕ) → read bs ≡ is.Unknown → P s bs (ended s 0 bs (Refused UnknownMark)))
-    (at_Stops : (s : S) (bs : List ℕ) (m : Mark) (k : ℕ) → read bs ≡ is.Whole m → step s m (fields m bs) ≡ stops k → P s bs (ended s 0 bs (Refused k)))
+    (at_Stops : (s : S) (bs : List ℕ) (m : Mark) (k : Refusal) → read bs ≡ is.Whole m → step s m (fields m bs) ≡ stops k → P s bs (ended s 0 bs (Refused k)))
     (at_leaves : (s : S) (bs : List ℕ) (m : Mark) → read bs ≡ is.Whole m → step s m (fields m bs) ≡ leaves → P s bs (ended s 0 bs Left))
     (at_goes : (s t : S) (bs : List ℕ) (m : Mark) → read bs ≡ is.Whole m → step s m (fields m bs) ≡ goes t → P t (after m bs) (ran step t (after m bs))
     → P s bs (counted 1 (ran step t (after m bs))))

@@ -19,6 +19,7 @@ use Rattle.runs.specs.Run.{Next, Run, ended, ran, counted}
 use Rattle.runs.specs.Follow.{continued}
 use Rattle.runs.proofs.Appends.{run_append, continued_cut, continued_refused, continued_left}
 use Rattle.runs.proofs.Rests.{rest_cut, none_taken, some_taken}
+use Rattle.refusals.specs.declared.Refusal.{Refusal}
 
 abbrev pub joint : List ℕ → List ℕ → List ℕ
 joint rest piece = rest ++ take 22 piece
@@ -93,7 +94,7 @@ module _ {S : Type 0} (step : S → Mark → List ℕ → Next S) (rest piece : 
 
   module _ (s t : S) (n at : ℕ) (fits : at ≤ length (joint rest piece)) where
     -- a run that ended in the joint for another reason than its end
-    pub joint_refused : (k : ℕ) → ran step s (joint rest piece) ≡ ended t n (drop at (joint rest piece)) (Refused k)
+    pub joint_refused : (k : Refusal) → ran step s (joint rest piece) ≡ ended t n (drop at (joint rest piece)) (Refused k)
         → ran step s (rest ++ piece) ≡ ended t n (drop at (rest ++ piece)) (Refused k)
     joint_refused k q =
         joint_run s (ended t n (drop at (joint rest piece)) (Refused k)) q

@@ -7,7 +7,7 @@ use Rattle.marks.specs.declared.Mark.{Mark}
 use Rattle.marks.specs.declared.Record.TheVariants as is
 use Rattle.marks.specs.declared.End.TheVariants.{Left}
 use Rattle.marks.specs.Marks.{read, fields}
-use Rattle.runs.specs.Run.{Next, leaves, Run, ended, ran, counted}
+use Rattle.runs.specs.Run.{Next, leaves, Run, ran, counted}
 use Rattle.runs.proofs.Inductions.{by_run}
 
 module _ {S : Type 0} (step : S → Mark → List ℕ → Next S) where

@@ -14,6 +14,7 @@ use Rattle.runs.proofs.Counts.{counted_none, counted_twice, counted_ended, count
 use Rattle.runs.proofs.Turns.{ran_cut, ran_unknown, ran_goes, ran_stops}
 use Rattle.runs.proofs.Inductions.{by_run}
 use Rattle.refusals.specs.declared.Refusal.TheVariants.{UnknownMark}
+use Rattle.refusals.specs.declared.Refusal.{Refusal}
 
 module _ {S J : Type 0} (took : J → Mark → List ℕ → Next J) (e : S → J) where
   -- the ways to go on, by the end of the run
@@ -21,7 +22,7 @@ module _ {S J : Type 0} (took : J → Mark → List ℕ → Next J) (e : S → J
   unfolding carried
   carried_cut r q = rw q
 
-  pub carried_refused : (r : Run S) (k : ℕ) → r.end ≡ Refused k → carried took e r ≡ ended (e r.state) r.count r.rest (Refused k)
+  pub carried_refused : (r : Run S) (k : Refusal) → r.end ≡ Refused k → carried took e r ≡ ended (e r.state) r.count r.rest (Refused k)
   unfolding carried
   carried_refused r k q = rw q
 
@@ -48,13 +49,13 @@ module _ {S J : Type 0} (took : J → Mark → List ℕ → Next J) (e : S → J
 
 module _ {S J : Type 0} (step : S → Mark → List ℕ → Next S) (took : J → Mark → List ℕ → Next J) (e : S → J) (P : S → Type 0)
     (on_goes : (s t : S) (m : Mark) (fs : List ℕ) → P s → step s m fs ≡ goes t → (took (e s) m fs ≡ goes (e t)) × P t)
-    (on_stops : (s : S) (m : Mark) (fs : List ℕ) (k : ℕ) → P s → step s m fs ≡ stops k → took (e s) m fs ≡ stops k) where
+    (on_stops : (s : S) (m : Mark) (fs : List ℕ) (k : Refusal) → P s → step s m fs ≡ stops k → took (e s) m fs ≡ stops k) where
   pub run_simulates : (s : S) (bs : List ℕ) → P s → (ran took (e s) bs ≡ carried took e (ran step s bs)) × P (ran step s bs).state
   unfolding counted
   run_simulates =
       by_run step (λ s bs r. P s → (ran took (e s) bs ≡ carried took e r) × P r.state)
       (λ s bs c p. (ran_cut took (e s) bs c ∙ sym (carried_cut took e (ended s 0 bs Cut) refl), p))
-      (λ s bs u p. (ran_unknown took (e s) bs u ∙ sym (carried_refused took e (ended s 0 bs (Refused UnknownMark)) 17 refl), p))
+      (λ s bs u p. (ran_unknown took (e s) bs u ∙ sym (carried_refused took e (ended s 0 bs (Refused UnknownMark)) UnknownMark refl), p))
       (λ s bs m k w q p.
       (ran_stops took (e s) bs m k w (on_stops s m (fields m bs) k p q) ∙ sym (carried_refused took e (ended s 0 bs (Refused k)) k refl), p))
       (λ s bs m w q p. (sym (carried_left took e (ended s 0 bs Left) refl ∙ counted_none (ran took (e s) bs)), p))

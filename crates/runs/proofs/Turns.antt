@@ -17,6 +17,7 @@ use Rattle.runs.specs.Run.{Next, goes, stops, leaves, ended, run, ran, counted}
 use Rattle.runs.proofs.Fuels.{turn_cut, turn_unknown, turn_goes, turn_stops, turn_leaves}
 use Rattle.runs.proofs.Counts.{counted_none, counted_ended, counted_twice, run_counts, run_more}
 use Rattle.refusals.specs.declared.Refusal.TheVariants.{UnknownMark}
+use Rattle.refusals.specs.declared.Refusal.{Refusal}
 
 -- a part of the bytes from a place on, as code makes it
 pub part_drop : (at : ℕ) (bs : List ℕ) → take (length bs - at) (drop at bs) ≡ drop at bs
@@ -41,7 +42,7 @@ module _ {S : Type 0} (step : S → Mark → List ℕ → Next S) where
   pub ran_unknown : (s : S) (bs : List ℕ) → read bs ≡ is.Unknown → ran step s bs ≡ ended s 0 bs (Refused UnknownMark)
   ran_unknown s bs e = turned s bs ∙ turn_unknown step (length bs) s 0 bs e
 
-  pub ran_stops : (s : S) (bs : List ℕ) (m : Mark) (k : ℕ) → read bs ≡ is.Whole m → step s m (fields m bs) ≡ stops k
+  pub ran_stops : (s : S) (bs : List ℕ) (m : Mark) (k : Refusal) → read bs ≡ is.Whole m → step s m (fields m bs) ≡ stops k
       → ran step s bs ≡ ended s 0 bs (Refused k)
   ran_stops s bs m k e q = turned s bs ∙ turn_stops step (length bs) s 0 bs m k e q
 
@@ -76,7 +77,7 @@ module _ {S : Type 0} (step : S → Mark → List ℕ → Next S) where
   over : (n : ℕ) (s : S) (bs : List ℕ) (x : End) → ran step s bs ≡ ended s 0 bs x → counted n (ran step s bs) ≡ ended s n bs x
   over n s bs x e = ap (counted n) e ∙ counted_ended n 0 s bs x ∙ ap (λ k. ended s k bs x) (omega arith)
 
-  pub run_stops : (s : S) (n : ℕ) (bs : List ℕ) (m : Mark) (k : ℕ) → read bs ≡ is.Whole m → step s m (fields m bs) ≡ stops k
+  pub run_stops : (s : S) (n : ℕ) (bs : List ℕ) (m : Mark) (k : Refusal) → read bs ≡ is.Whole m → step s m (fields m bs) ≡ stops k
       → counted n (ran step s bs) ≡ ended s n bs (Refused k)
   run_stops s n bs m k e q = over n s bs (Refused k) (ran_stops s bs m k e q)
 
