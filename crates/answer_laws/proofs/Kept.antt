@@ -19,8 +19,7 @@ use Rattle.graph.specs.Graph.{tally}
 use Rattle.graph.specs.Ghost.{is_nil, find_ancestor}
 use Rattle.graph.specs.Shape.{Shape}
 use Rattle.graph.proofs.Ghosts.{ghost_ends, ghost_none}
-use Rattle.nodes.specs.declared.Question.{Question}
-use Rattle.nodes.specs.Nodes.{col, passes, Falls}
+use Rattle.nodes.specs.Nodes.{col, Question, passes, Falls}
 use Rattle.nodes.specs.Columns.{view}
 use Rattle.vote_search.proofs.Questions.{passes_mono}
 use Rattle.answers.specs.declared.Answers.{Answers}

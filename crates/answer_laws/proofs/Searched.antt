@@ -26,8 +26,7 @@ use Rattle.graph.specs.Graph.{tally}
 use Rattle.graph.specs.Shape.{Targets}
 use Rattle.graph.proofs.Tallies.{lands_target, target_lands}
 use Rattle.graph.proofs.Ghosts.{Ended, ghost_ends, ghost_stays, ancestor_is}
-use Rattle.nodes.specs.declared.Question.{Question}
-use Rattle.nodes.specs.Nodes.{col, flag, passes}
+use Rattle.nodes.specs.Nodes.{col, flag, Question, passes}
 use Rattle.nodes.specs.Columns.{view}
 use Rattle.vote_search.proofs.Questions.{passes_mono}
 use Rattle.answers.specs.Update.{weighty, still, ancestor_from, ghost_from, ends_at, settled}

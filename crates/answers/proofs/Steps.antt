@@ -19,9 +19,7 @@ use Rattle.context.specs.declared.Phase.TheVariants.{Prevote, Precommit}
 use Rattle.graph.specs.Graph.{Graph, tally}
 use Rattle.graph.specs.Search.{containing}
 use Rattle.graph.specs.Ghost.{is_nil, find_ancestor, descend}
-use Rattle.nodes.specs.declared.Condition.TheVariants.{AtLeast, Possible}
-use Rattle.nodes.specs.declared.Question.{Question}
-use Rattle.nodes.specs.Nodes.{col, passes, Falls}
+use Rattle.nodes.specs.Nodes.{col, AtLeast, Possible, Question, passes, Falls}
 use Rattle.nodes.specs.Columns.{Columns, view}
 use Rattle.vote_search.specs.declared.Both.{Both}
 use Rattle.vote_search.specs.Searches.{Stands, unlisted, unheaded, of_precommits, both}
@@ -72,23 +70,24 @@ module _ (s : Scene) (phase : Phase) (heard : ℕ) (stored : Option ℕ) where
   phase_goes h b e r q = rw (le-leb s.threshold heard h, ← e) q
 
 -- what is settled, of an estimate that passes
-module _ (parents weights : List ℕ) (q : Question) (g : ℕ) where
-  pub untested_none : (graph : Graph) (o : Option ℕ) → o ≡ None → false ≡ untested parents weights graph q g o
+module _ (parents : List ℕ) (ok : List ℕ → Bool) (g : ℕ) where
+  pub untested_none : (graph : Graph) (o : Option ℕ) → o ≡ None → false ≡ untested parents graph ok g o
   untested_none graph o e = rw e
 
-  pub untested_other : (graph : Graph) (o : Option ℕ) (e : ℕ) → o ≡ Some e → e ≢ g → true ≡ untested parents weights graph q g o
+  pub untested_other : (graph : Graph) (o : Option ℕ) (e : ℕ) → o ≡ Some e → e ≢ g → true ≡ untested parents graph ok g o
   untested_other graph o e p d = rw (p, ne_eqb e g d)
 
-  pub untested_end : (graph : Graph) (o : Option ℕ) (e : ℕ) → o ≡ Some e → e ≡ g → (r : ℕ) → r ≡ descend (col parents) graph (passes weights q) e
-      → eqb r g ≡ untested parents weights graph q g o
+  pub untested_end : (graph : Graph) (o : Option ℕ) (e : ℕ) → o ≡ Some e → e ≡ g → (r : ℕ) → r ≡ descend (col parents) graph ok e
+      → eqb r g ≡ untested parents graph ok g o
   untested_end graph o e p d r k = rw (p, eq-eqb e g d, k)
 
+module _ (parents weights : List ℕ) (q : Question) (g : ℕ) where
   abbrev Passing : Columns → Option ℕ → Type 0
   Passing graph None = Unit {0}
   Passing graph (Some b) = T (passes weights q (tally (col parents) (view graph) b))
 
   settled_untested : (base : ℕ) (graph : Columns) → Grounded parents base graph → (o : Option ℕ) → Passing graph o
-      → untested parents weights (unheaded graph.used graph.rows graph.order graph.listed) q g o ≡ settled parents weights graph q g o
+      → untested parents (unheaded graph.used graph.rows graph.order graph.listed) (passes weights q) g o ≡ settled parents weights graph q g o
   settled_untested base graph ground None t = refl
   settled_untested base graph ground (Some e) t =
       rw (search.ghost_from parents ground.ids base ground.count graph ground.sound (passes weights q) e (true_T _ t) _ refl)
@@ -124,7 +123,7 @@ module _ (s : Scene) (ground : Grounded s.parents s.base s.graph) (p : PossibleT
     possible_in = possible_told (InBase s.parents s.base) tt (λ x f. f.inside)
 
     possible_settled : (z : Bool)
-        → z ≡ untested s.parents s.weights (unheaded s.graph.used s.graph.rows s.graph.order s.graph.listed) (of_precommits s.equivocations (Possible p)) g r.possible
+        → z ≡ untested s.parents (unheaded s.graph.used s.graph.rows s.graph.order s.graph.listed) (passes s.weights (of_precommits s.equivocations (Possible p))) g r.possible
         → z ≡ settled s.parents s.weights s.graph (of_precommits s.equivocations (Possible p)) g r.possible
     possible_settled z q =
         q ∙ settled_untested s.parents s.weights (of_precommits s.equivocations (Possible p)) g s.base s.graph ground r.possible
@@ -166,7 +165,7 @@ module _ (s : Scene) (total : ℕ) (heard : Heard) (a : Answers) where
           → s.threshold ≤ heard.precommit
           → (w : ℕ) (p : PossibleToPrecommit) → w ≡ weight_of s.weights (voted s.equivocations Precommit)
           → p ≡ asked total s.threshold heard.precommit w → (r : Both) → Sought s ground p g r → (z : Bool)
-          → z ≡ untested s.parents s.weights (unheaded s.graph.used s.graph.rows s.graph.order s.graph.listed) (of_precommits s.equivocations (Possible p)) g r.possible
+          → z ≡ untested s.parents (unheaded s.graph.used s.graph.rows s.graph.order s.graph.listed) (passes s.weights (of_precommits s.equivocations (Possible p))) g r.possible
           → record { prevote = Some g; precommit = a.precommit; finalized = r.weighty; estimate = r.possible; completable = z } ≡ update s total heard a
       update_reached ground i k w p u v r q z pz =
           ap (λ (o : Option ℕ). made o r.weighty r.possible z) (sym e)

@@ -8,9 +8,7 @@ use Rattle.context.specs.declared.Phase.TheVariants.{Prevote, Precommit}
 use Rattle.context.specs.Votes.{voted, weight_of}
 use Rattle.graph.specs.Graph.{Graph}
 use Rattle.graph.specs.Ghost.{find_ancestor, descend, find_ghost}
-use Rattle.nodes.specs.declared.Condition.TheVariants.{AtLeast, Possible}
-use Rattle.nodes.specs.declared.Question.{Question}
-use Rattle.nodes.specs.Nodes.{col, passes}
+use Rattle.nodes.specs.Nodes.{col, AtLeast, Possible, Question, passes}
 use Rattle.nodes.specs.Columns.{Columns, Sound, view}
 use Rattle.answers.specs.declared.Answers.{Answers}
 use Rattle.answers.specs.declared.Heard.{Heard}
@@ -86,9 +84,9 @@ settled parents weights graph q g (Some e) = not (eqb e g) || ends_at g (ghost_f
 settled parents weights graph q g None = false
 
 -- the same of an estimate that passes: the search is not asked whether its start does. `settled_untested` says so.
-abbrev pub untested : List ℕ → List ℕ → Graph → Question → ℕ → Option ℕ → Bool
-untested parents weights graph q g (Some e) = not (eqb e g) || eqb (descend (col parents) graph (passes weights q) e) g
-untested parents weights graph q g None = false
+abbrev pub untested : List ℕ → Graph → (List ℕ → Bool) → ℕ → Option ℕ → Bool
+untested parents graph ok g (Some e) = not (eqb e g) || eqb (descend (col parents) graph ok e) g
+untested parents graph ok g None = false
 
 -- heard precommit weight below T: the estimate is g
 abbrev pub waiting : Answers → ℕ → Answers

@@ -9,7 +9,7 @@ ghost use Rattle.vote_search.specs.Searches.{unheaded};
 
 use context::Phase;
 use grandpa::PossibleToPrecommit;
-use nodes::{Condition, Question};
+use nodes::{Asks, Possible, Weighty};
 use sizes::{BLOCKS, VOTERS, WORDS};
 
 // The stored blocks by place: the Rust's `prevote_ghost` and `precommit_ghost`, `finalized`, `estimate`; and
@@ -85,13 +85,14 @@ pub fn phase_ghost<'a>(
         return stored;
     }
     let start = start_of(stored, base);
-    let question = Question {
+    let question = Weighty {
+        weights,
         phase,
-        condition: Condition::AtLeast(threshold),
+        threshold,
         equivocations,
     };
     vote_search::find_ghost(
-        parents, used, above, rows, order, listed, heads, tips, weights, question, start,
+        parents, used, above, rows, order, listed, heads, tips, &question, start,
     )
 }
 
@@ -153,21 +154,20 @@ pub fn with_ghost<'a>(
 
 // Whether no block strictly below g can still be finalized. The estimate is possible, so that the search down is not asked
 // whether its start is.
-fn is_completable<'a>(
+fn is_completable<'a, Q: Asks>(
     parents: &'a [u8; BLOCKS],
     used: &'a [bool; BLOCKS],
     above: &'a [u8; BLOCKS],
     rows: &'a [[u64; WORDS]; BLOCKS],
     order: &'a [u8; BLOCKS],
     listed: usize,
-    weights: &'a [u64; VOTERS],
-    possible: Question,
+    possible: &'a Q,
     g: u8,
     estimate: Option<u8>,
 ) -> bool
     requires { (heads : List ℕ) × (tips : ℕ) × (base : ℕ)
         × (Grounded parents.now base (graph_at plain used.now above.now rows.now order.now listed heads tips)) × InBase parents.now base estimate }
-    ensures { result ≡ untested parents.now weights.now (unheaded used.now rows.now order.now listed) possible g estimate }
+    ensures { result ≡ untested parents.now (unheaded used.now rows.now order.now listed) (Q.asks possible.now) g estimate }
 {
     let Some(block) = estimate else {
         return false;
@@ -175,9 +175,7 @@ fn is_completable<'a>(
     if block != g {
         return true;
     }
-    let lowest = vote_search::descend(
-        parents, used, above, rows, order, listed, weights, possible, block,
-    );
+    let lowest = vote_search::descend(parents, used, above, rows, order, listed, possible, block);
     lowest == g
 }
 
@@ -237,13 +235,13 @@ pub fn update<'a>(
     );
     let finalized = both.weighty;
     let estimate = both.possible;
-    let possible = Question {
-        phase: Phase::Precommit,
-        condition: Condition::Possible(still),
+    let possible = Possible {
+        weights,
+        still,
         equivocations,
     };
     let completable = is_completable(
-        parents, used, above, rows, order, listed, weights, possible, g, estimate,
+        parents, used, above, rows, order, listed, &possible, g, estimate,
     );
     Answers {
         prevote,

@@ -17,10 +17,9 @@ use lib.Pow.{pow_pos, pow_mono, shl-shr, high}
 use lib.Seq.{get_or-set_same, get_or-set_other}
 use Rattle.loops.proofs.Tests.{T_true, true_T, false_not, true_false, and_true}
 use Rattle.loops.proofs.Firsts.{Least, first_cases, first_least, first_none}
-use Rattle.bitfield.specs.declared.Found.TheVariants.{Nothing, At}
-use Rattle.bitfield.specs.declared.Step.{Step}
+use Rattle.std.proofs.Common.{None, Some}
 use Rattle.bitfield.specs.Bits.{in_word, has, joined, every}
-use Rattle.bitfield.specs.Walk.{cut, next, visit, walk, passing}
+use Rattle.bitfield.specs.Walk.{Step, cut, next, visit, walk, passing}
 use Rattle.bitfield.proofs.Words.{in_word_low, in_word_zero, in_word_cut}
 use Rattle.bitfield.proofs.Sets.{has_at, has_past, has_joined, has_every, length_every, length_joined, same_place}
 
@@ -116,10 +115,10 @@ cut_at ws i p h =
 
 -- what a step gives at a bit b, and at none
 abbrev pub found : List ℕ → ℕ → Step
-found ws b = record { found = At (record { position = b }); left = cut ws b }
+found ws b = record { found = Some (record { position = b }); left = cut ws b }
 
 abbrev pub done : List ℕ → Step
-done ws = record { found = Nothing; left = ws }
+done ws = record { found = None; left = ws }
 
 pub next_least : (ws : List ℕ) (b : ℕ) → Least (has ws) (64 * length ws) b → next ws ≡ found ws b
 unfolding next

@@ -6,7 +6,7 @@ ghost use Rattle.std.specs.Prelude.{◌≡◌, ◌<◌, ◌-◌, ◌%◌, get_or
 ghost use Rattle.std.specs.Int.Bits.{bit_and};
 ghost use Rattle.sizes.specs.Sizes.{WORDS};
 ghost use Rattle.bitfield.specs.Bits.{has, put, words, joined, blank, every};
-ghost use Rattle.bitfield.specs.Walk.{first_of, next};
+ghost use Rattle.bitfield.specs.Walk.{first_of};
 
 use sizes::{WORD, WORDS};
 
@@ -14,19 +14,6 @@ use sizes::{WORD, WORDS};
 #[derive(Clone, Copy)]
 pub struct Bit1 {
     pub position: usize,
-}
-
-#[derive(Clone, Copy)]
-pub enum Found {
-    Nothing,
-    At(Bit1),
-}
-
-// What a step of a walk finds, and the words that are left to walk.
-#[derive(Clone, Copy)]
-pub struct Step {
-    pub found: Found,
-    pub left: [u64; WORDS],
 }
 
 // A set bit of a word, and the word without it.
@@ -57,10 +44,7 @@ pub fn new() -> [u64; WORDS]
 pub fn is_blank(bits: [u64; WORDS]) -> bool
     ensures { result ≡ blank bits }
 {
-    if bits[0] != NONE {
-        return false;
-    }
-    bits[1] == NONE
+    bits.iter().all(|word| *word == NONE)
 }
 
 pub fn merge(bits: [u64; WORDS], other: [u64; WORDS]) -> [u64; WORDS]
@@ -73,7 +57,7 @@ pub fn merge(bits: [u64; WORDS], other: [u64; WORDS]) -> [u64; WORDS]
 fn shift_of(position: usize) -> u32
     ensures { result ≡ 63 - position % 64 }
 {
-    63 - (position % 64) as u32
+    (WORD - 1 - position % WORD) as u32
 }
 
 // A case for each word: a word at a computed index would have to go through memory.
@@ -81,7 +65,7 @@ pub fn set_bit(bits: [u64; WORDS], position: usize) -> [u64; WORDS]
     ensures { result ≡ put bits position }
 {
     let value = 1u64 << shift_of(position);
-    if position < 64 {
+    if position < WORD {
         return [bits[0] | value, bits[1]];
     }
     if position < BITS {
@@ -96,38 +80,60 @@ pub fn test_bit(bits: [u64; WORDS], position: usize) -> bool
     if BITS <= position {
         return false;
     }
-    let word = bits[position / 64];
+    let word = bits[position / WORD];
     (word >> shift_of(position)) % 2 == 1
 }
 
 // The bits of a mask.
-fn iter1s(bits: [u64; WORDS], mask: u64) -> [u64; WORDS]
+fn masked(bits: [u64; WORDS], mask: u64) -> [u64; WORDS]
     ensures { result ≡ words WORDS (λ i. bit_and (get_or bits i 0) mask) }
 {
     [bits[0] & mask, bits[1] & mask]
 }
 
-// The four walks of the Rust: each gives the words that `next` is to walk.
-pub fn iter1s_even(bits: [u64; WORDS]) -> [u64; WORDS]
+pub fn even_bits(bits: [u64; WORDS]) -> [u64; WORDS]
     ensures { result ≡ every 0 bits }
 {
-    iter1s(bits, EVEN)
+    masked(bits, EVEN)
 }
 
-pub fn iter1s_odd(bits: [u64; WORDS]) -> [u64; WORDS]
+pub fn odd_bits(bits: [u64; WORDS]) -> [u64; WORDS]
     ensures { result ≡ every 1 bits }
 {
-    iter1s(bits, ODD)
+    masked(bits, ODD)
 }
 
-pub fn iter1s_merged_even(bits: [u64; WORDS], other: [u64; WORDS]) -> [u64; WORDS]
-    ensures { result ≡ every 0 (joined bits other) }
+// The set bits of some words, the first of them first.
+#[derive(Clone, Copy)]
+pub struct Iter1s {
+    left: [u64; WORDS],
+}
+
+// The four walks of the Rust.
+pub fn iter1s_even(bits: [u64; WORDS]) -> Iter1s
+    ensures { result.left ≡ every 0 bits }
+{
+    Iter1s {
+        left: even_bits(bits),
+    }
+}
+
+pub fn iter1s_odd(bits: [u64; WORDS]) -> Iter1s
+    ensures { result.left ≡ every 1 bits }
+{
+    Iter1s {
+        left: odd_bits(bits),
+    }
+}
+
+pub fn iter1s_merged_even(bits: [u64; WORDS], other: [u64; WORDS]) -> Iter1s
+    ensures { result.left ≡ every 0 (joined bits other) }
 {
     iter1s_even(merge(bits, other))
 }
 
-pub fn iter1s_merged_odd(bits: [u64; WORDS], other: [u64; WORDS]) -> [u64; WORDS]
-    ensures { result ≡ every 1 (joined bits other) }
+pub fn iter1s_merged_odd(bits: [u64; WORDS], other: [u64; WORDS]) -> Iter1s
+    ensures { result.left ≡ every 1 (joined bits other) }
 {
     iter1s_odd(merge(bits, other))
 }
@@ -144,30 +150,22 @@ fn first_of(word: u64) -> First
     }
 }
 
-// One step of a walk.
-pub fn next(left: [u64; WORDS]) -> Step
-    ensures { result ≡ next left }
-{
-    let first = left[0];
-    let second = left[1];
-    if first != NONE {
-        let one = first_of(first);
-        return Step {
-            found: Found::At(Bit1 { position: one.at }),
-            left: [one.rest, second],
-        };
-    }
-    if second != NONE {
-        let one = first_of(second);
-        return Step {
-            found: Found::At(Bit1 {
-                position: 64 + one.at,
-            }),
-            left: [first, one.rest],
-        };
-    }
-    Step {
-        found: Found::Nothing,
-        left,
+impl Iterator for Iter1s {
+    ghost use Rattle.std.specs.Iterator.{item_count};
+    ghost use Rattle.bitfield.specs.Walk.{Steps, set_bits};
+
+    type Item = Bit1;
+
+    ghost next_gives = { λ before found after. Steps before.left found after.left };
+
+    ghost remaining = { item_count (λ walk. set_bits walk.left) };
+
+    fn next(&mut self) -> Option<Bit1> {
+        let place = self.left.iter().position(|word| *word != NONE)?;
+        let one = first_of(self.left[place]);
+        self.left[place] = one.rest;
+        Some(Bit1 {
+            position: WORD * place + one.at,
+        })
     }
 }

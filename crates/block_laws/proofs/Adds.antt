@@ -24,7 +24,7 @@ use Rattle.block_table.specs.Add.{opened, add, Due, breaks_the_shape, already_th
 use Rattle.block_shape.proofs.Shapes.{tabled_shaped, shaped_tabled}
 use Rattle.std.specs.Prelude.{Option, Some, None, Result, Ok, Err}
 use Rattle.refusals.specs.declared.Refusal.{Refusal}
-use Rattle.refusals.specs.declared.Refusal.TheVariants.{Misshapen}
+use Rattle.refusals.specs.declared.Refusal.TheVariants.{KnownBlock, UnknownParent, NumberOverflow, TableFull, Misshapen}
 
 -- a block that is found stands there, and one that is not found stands nowhere
 module _ (t : BlockTable) (s : Shaped t) (id : ℕ) where
@@ -235,7 +235,7 @@ module _ (t : BlockTable) (s : Shaped t) (id above : ℕ) (under : above < t.cou
 
 -- a call on a table that keeps the shape refuses, or places the block
 pub data Stepped (t : BlockTable) (id parent : ℕ) : Added → Type 0 where
-  refuses : (n : ℕ) → Stepped t id parent (refused t n)
+  refuses : (e : Refusal) → Stepped t id parent (refused t e)
   places : (above : ℕ) → Stands t parent above → Absent t id → t.count < BLOCKS → Stepped t id parent (placed t id above)
 
 module _ (t : BlockTable) (s : Shaped t) (id parent : ℕ) where
@@ -245,22 +245,22 @@ module _ (t : BlockTable) (s : Shaped t) (id parent : ℕ) where
     where
       counts : (c : contains t.ids t.count id ≡ false) (k : ℕ) → place_of t.ids t.count parent ≡ Some k
           → get_or t.numbers k 0 ≢ 4294967295 → Dec (t.count ≡ BLOCKS) → Stepped t id parent (step t id parent)
-      counts e k p n (yes q) = rw (e, p, ne_eqb _ _ n, eq-eqb _ _ q) (refuses 8)
+      counts e k p n (yes q) = rw (e, p, ne_eqb _ _ n, eq-eqb _ _ q) (refuses TableFull)
       counts e k p n (no q) =
           rw (e, p, ne_eqb _ _ n, ne_eqb _ _ q) (places k (found_stands t s parent k p) (contains_none t s id e) (omega (arith, s.few)))
 
       numbers : contains t.ids t.count id ≡ false → (k : ℕ) → place_of t.ids t.count parent ≡ Some k
           → Dec (get_or t.numbers k 0 ≡ 4294967295) → Stepped t id parent (step t id parent)
-      numbers e k p (yes q) = rw (e, p, eq-eqb _ _ q) (refuses 7)
+      numbers e k p (yes q) = rw (e, p, eq-eqb _ _ q) (refuses NumberOverflow)
       numbers e k p (no q) = counts e k p q (ℕ_discrete t.count BLOCKS)
 
       parents : contains t.ids t.count id ≡ false → (p : Option ℕ) → place_of t.ids t.count parent ≡ p
           → Stepped t id parent (step t id parent)
       parents e (Some k) p = numbers e k p (ℕ_discrete (get_or t.numbers k 0) 4294967295)
-      parents e None p = rw (e, p) (refuses 6)
+      parents e None p = rw (e, p) (refuses UnknownParent)
 
       ids : (b : Bool) → contains t.ids t.count id ≡ b → Stepped t id parent (step t id parent)
-      ids true e = rw e (refuses 5)
+      ids true e = rw e (refuses KnownBlock)
       ids false e = parents e (place_of t.ids t.count parent) refl
 
   stepped_shaped : {a : Added} → Stepped t id parent a → Shaped a.table
@@ -271,7 +271,7 @@ module _ (t : BlockTable) (s : Shaped t) (id parent : ℕ) where
   stepped_grown (refuses n) = record { more = omega arith; same_up = λ k h. refl; same_number = λ k h. refl }
   stepped_grown (places above p f l) = appended_grown t s id above p.inside l
 
-  stepped_refused : {a : Added} (n : ℕ) → Stepped t id parent a → a.answer ≡ Err n → a.table ≡ t
+  stepped_refused : {a : Added} (n : Refusal) → Stepped t id parent a → a.answer ≡ Err n → a.table ≡ t
   stepped_refused n (refuses m) e = refl
   stepped_refused n (places above p f l) e = absurd (let z : ◌≡◌ {A = ℕ} 0 1 = cc in omega arith)
 
@@ -293,7 +293,7 @@ module _ (t : BlockTable) (s : Shaped t) (id parent : ℕ) where
   pub step_stands : (x k : ℕ) → Stands t x k → Stands (step t id parent).table x k
   step_stands x k q = stepped_stands x k stepped q
 
-  pub step_refused : (n : ℕ) → (step t id parent).answer ≡ Err n → (step t id parent).table ≡ t
+  pub step_refused : (n : Refusal) → (step t id parent).answer ≡ Err n → (step t id parent).table ≡ t
   step_refused n e = stepped_refused n stepped e
 
   -- a placed block is the last, and new, under a parent that stands
@@ -327,6 +327,6 @@ module _ (t : BlockTable) (id parent : ℕ) where
       (λ e. record { more = omega arith; same_up = λ k h. refl; same_number = λ k h. refl })
 
   -- a refusal hands the table back equal
-  pub add_refused : (n : ℕ) → (add t id parent).answer ≡ Err n → (add t id parent).table ≡ t
+  pub add_refused : (n : Refusal) → (add t id parent).answer ≡ Err n → (add t id parent).table ≡ t
   add_refused n =
       by_shape (λ (a : Added). a.answer ≡ Err n → a.table ≡ t) (λ s. step_refused t (tabled_shaped t s) id parent n) (λ e q. refl)

@@ -17,7 +17,8 @@ use Rattle.block_table.specs.Ask.{find, ancestor_at, is_at_or_below}
 use Rattle.block_shape.proofs.Shapes.{tabled_shaped}
 use Rattle.block_laws.proofs.Adds.{found_stands, stands_found, stands_nothing}
 use Rattle.blocks.proofs.Climbs.{climbed_meets, climbed_below, climbed_number}
-use Rattle.std.specs.Prelude.{Option, Some, None, Ok}
+use Rattle.std.specs.Prelude.{Option, Some, None, Result, Ok}
+use Rattle.refusals.specs.declared.Refusal.{Refusal}
 
 module _ (t : BlockTable) (h : T (tabled t)) where
   -- the block of an id is found, and no other
@@ -33,7 +34,7 @@ module _ (t : BlockTable) (h : T (tabled t)) where
   unfolding find
   found id k e = go (place_of t.ids t.count id) refl (rw (true_T (tabled t) h) at e)
     where
-      go : (p : Option ℕ) → place_of t.ids t.count id ≡ p → Ok p ≡ Ok (Some k) → Stands t id k
+      go : (p : Option ℕ) → place_of t.ids t.count id ≡ p → ◌≡◌ {A = Result (Option ℕ) Refusal} (Ok p) (Ok (Some k)) → Stands t id k
       go (Some j) q r =
           let j_is : j ≡ k = cc in
           found_stands t (tabled_shaped t h) id k (rw j_is at q)
@@ -64,7 +65,7 @@ module _ (t : BlockTable) (h : T (tabled t)) where
       (rw (true_T (tabled t) h) at e)
     where
       go : (x y z : Bool) → ltb b t.count ≡ x → leb (get_or t.numbers 0 0) wanted ≡ y → leb wanted (get_or t.numbers b 0) ≡ z
-          → cond (x && (y && z)) (Ok (Some (climbed t.parents t.numbers b wanted))) (Ok None) ≡ Ok (Some a)
+          → ◌≡◌ {A = Result (Option ℕ) Refusal} (Ok (cond (x && (y && z)) (Some (climbed t.parents t.numbers b wanted)) None)) (Ok (Some a))
           → (b < t.count) × T (below (up t.parents) a b) × (get_or t.numbers a 0 ≡ wanted)
       go true true true p q r s =
           let w = tabled_shaped t h in
@@ -89,7 +90,7 @@ module _ (t : BlockTable) (h : T (tabled t)) where
       go (ltb a t.count) (ltb b t.count) (below (up t.parents) a b) refl refl refl (rw (true_T (tabled t) h) at e)
     where
       go : (x y z : Bool) → ltb a t.count ≡ x → ltb b t.count ≡ y → below (up t.parents) a b ≡ z
-          → Ok (x && (y && z)) ≡ Ok true → (a < t.count) × (b < t.count) × T (below (up t.parents) a b)
+          → ◌≡◌ {A = Result Bool Refusal} (Ok (x && (y && z))) (Ok true) → (a < t.count) × (b < t.count) × T (below (up t.parents) a b)
       go true true true p q r s = (ltb→lt a t.count (T_true p), ltb→lt b t.count (T_true q), T_true r)
       go true true false p q r s = absurd (let z : ◌≡◌ {A = ℕ} 0 1 = cc in omega arith)
       go true false z p q r s = absurd (let z : ◌≡◌ {A = ℕ} 0 1 = cc in omega arith)

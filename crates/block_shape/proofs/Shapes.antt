@@ -7,11 +7,12 @@ use Prim.Native.Nat.{ℕ, zero, suc, pred, ◌+◌, ◌≤◌, ◌<◌}
 use native.Mathlib.Omega.{arith}
 use lib.Dec.{T, eqb, leb, ltb, eqb→eq, leb→le, le→leb, ltb→lt, lt→ltb}
 use lib.ListN.{length, get_or, get_or-eq_default}
-use borrow.Author.Tests.{eq-eqb, ne_eqb, lt-ltb, le-ltb, le-leb, lt-leb}
+use borrow.Author.Tests.{eq-eqb, ne_eqb, lt-ltb, le-leb, lt-leb}
 use Rattle.sizes.specs.Sizes.{BLOCKS}
 use Rattle.loops.specs.All.{all}
 use Rattle.loops.proofs.Tests.{T_true, true_T, T_false, false_T, false_not, both, left_of, right_of, in_left, in_right, either, le_or_lt}
-use Rattle.loops.proofs.Alls.{all_at, all_intro, all_none, all_more, all_turn}
+use Rattle.loops.proofs.Alls.{all_at, all_intro, all_none, all_more}
+use Rattle.columns.specs.Blank.{blank}
 use Rattle.columns.specs.Find.{contains}
 use Rattle.columns.proofs.Finds.{contains_at, at_contains}
 use Rattle.grandpa.specs.Tree.{Tabled}
@@ -21,14 +22,10 @@ use Rattle.block_shape.specs.Shape.{sized, count_fits, is_child, seated, is_tree
 
 -- unused places
 module _ (column : List ℕ) (count : ℕ) where
-  pub clear_start : true ≡ all count (clear_at column count)
-  unfolding clear_at
-  clear_start = sym (true_T _ (all_intro (clear_at column count) count (λ k h. in_left (ltb k count) _ (lt→ltb k count h))))
-
-  pub clear_turn : (k : ℕ) → count ≤ k
-      → (eqb (get_or column k 0) 0 && all k (clear_at column count)) ≡ all (k + 1) (clear_at column count)
-  unfolding clear_at
-  clear_turn k h = rw (← all_turn (clear_at column count) k, le-ltb k count h)
+  -- the test of `lists`, of a whole column
+  pub clear_of_blank : (size : ℕ) → size ≡ BLOCKS → blank column count size ≡ is_clear column count
+  unfolding is_clear clear_at blank
+  clear_of_blank size e = rw e
 
   pub clear_means : length column ≡ BLOCKS → T (is_clear column count) → (k : ℕ) → count ≤ k → get_or column k 0 ≡ 0
   unfolding is_clear clear_at

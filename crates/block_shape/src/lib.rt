@@ -4,7 +4,7 @@
 ghost use Rattle.std.specs.Prelude.{◌≡◌, ◌≤◌, ◌<◌, length};
 ghost use Rattle.sizes.specs.Sizes.{BLOCKS};
 ghost use Rattle.blocks.specs.Table.{table_of};
-ghost use Rattle.block_shape.specs.Shape.{is_child, is_tree, are_distinct, is_clear, are_clear, tabled};
+ghost use Rattle.block_shape.specs.Shape.{is_child, is_tree, are_distinct, are_clear, tabled};
 
 use sizes::BLOCKS;
 
@@ -81,35 +81,7 @@ fn are_clear<'a>(
     requires { count ≤ BLOCKS }
     ensures { result ≡ are_clear ids.now numbers.now parents.now count }
 {
-    if !is_clear(ids, count) {
-        return false;
-    }
-    if !is_clear(numbers, count) {
-        return false;
-    }
-    is_clear_of_places(parents, count)
-}
-
-fn is_clear(column: &[u32; BLOCKS], from: usize) -> bool
-    requires { from ≤ BLOCKS }
-    ensures { result ≡ is_clear column.now from }
-{
-    let mut clear = true;
-    for k in from..BLOCKS {
-        clear = (column[k] == 0) & clear;
-    }
-    clear
-}
-
-fn is_clear_of_places(column: &[u8; BLOCKS], from: usize) -> bool
-    requires { from ≤ BLOCKS }
-    ensures { result ≡ is_clear column.now from }
-{
-    let mut clear = true;
-    for k in from..BLOCKS {
-        clear = (column[k] == 0) & clear;
-    }
-    clear
+    lists::blank(ids, count) && lists::blank(numbers, count) && lists::blank(parents, count)
 }
 
 fn wide(x: u8) -> usize

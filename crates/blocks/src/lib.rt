@@ -15,7 +15,7 @@ use sizes::BLOCKS;
 // The blocks by place, with unused places 0. A parent is a place; the root is its own. The fields are public, so that
 // the columns can be lent: a table of anyone's making can be handed in, and `is_table` tells it from one that was
 // built by calls.
-#[derive(Clone, Copy)]
+#[derive(Clone, Copy, PartialEq, Eq)]
 pub struct BlockTable {
     pub ids: [u32; BLOCKS],
     pub numbers: [u32; BLOCKS],

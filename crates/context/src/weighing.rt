@@ -7,15 +7,14 @@ ghost use Rattle.context.specs.Votes.{offset, voted, weight_of, voters_heard_in}
 
 use crate::Phase;
 use sizes::{VOTERS, WORDS};
-use weights::VoteWeight;
 
 // The bits of one phase.
 fn of_phase(bits: [u64; WORDS], phase: Phase) -> [u64; WORDS]
     ensures { result ≡ every (offset phase) bits }
 {
     match phase {
-        Phase::Prevote => bitfield::iter1s_even(bits),
-        Phase::Precommit => bitfield::iter1s_odd(bits),
+        Phase::Prevote => bitfield::even_bits(bits),
+        Phase::Precommit => bitfield::odd_bits(bits),
     }
 }
 
@@ -32,8 +31,7 @@ fn weigh_word(weights: &[u64; VOTERS], word: u64, first: usize, start: u64) -> u
         let rest = left & (left - 1);
         let zeros = u64::leading_zeros(left - rest) as usize;
         let place = first + zeros / 2;
-        let more = VoteWeight(sum).add(VoteWeight(weights[place]));
-        sum = more.0;
+        sum = sum.saturating_add(weights[place]);
         left = rest;
     }
     sum

@@ -39,6 +39,7 @@ use Rattle.feeding.specs.Feeding.{bytes_of, is_cut, rest_stands, kept_rest, ende
 use Rattle.feeding.specs.Feeding as joint
 use Rattle.std.specs.Prelude.{Ok, Err}
 use Rattle.refusals.specs.declared.Refusal.TheVariants.{OutOfTurn}
+use Rattle.refusals.specs.declared.Refusal.{Refusal}
 
 -- what the test of a rest says
 pub rest_means : (r : Rest) → T (rest_stands r) → (r.count ≤ 22) × (read (bytes_of r) ≡ is.Cut)
@@ -132,7 +133,7 @@ module _ (j : Journal) (rest : Rest) (stands : T (rest_stands rest)) (n : ℕ) (
   fits_joint = subst (λ l. p.at ≤ length l) is_joint fits
 
   -- a record is refused in it
-  pub went_refused : (k : ℕ) → p.end ≡ Refused k → after_run n (run_of p bs) ≡ went j rest n piece
+  pub went_refused : (k : Refusal) → p.end ≡ Refused k → after_run n (run_of p bs) ≡ went j rest n piece
   unfolding went
   went_refused k q =
       ap (λ (r : Run Journal). after_run n r) (e ∙ ap (run_from (told j)) is_joint ∙ from_ended (told j) state p.count (joint left piece) _ (Refused k) (over_joint (Refused k) q))
@@ -225,7 +226,7 @@ after_open n p bs q rest is_rest m is_m =
 abbrev stopped_by : Journal → ℕ → ℕ → Replay
 stopped_by j m k = record { journal = j; rest = kept_rest []; records = m; stop = Err k }
 
-pub after_stopped : (n : ℕ) (p : Progress) (bs : List ℕ) (k : ℕ) → p.end ≡ Refused k → (m : ℕ) → m ≡ plus n p.count → (r : Replay)
+pub after_stopped : (n : ℕ) (p : Progress) (bs : List ℕ) (k : Refusal) → p.end ≡ Refused k → (m : ℕ) → m ≡ plus n p.count → (r : Replay)
     → r ≡ stopped_by p.journal m k → r ≡ after_run n (run_of p bs)
 unfolding after_run
 after_stopped n p bs k q m is_m r e =

@@ -62,9 +62,7 @@ fn rest_of(left: &[u8]) -> Rest
 pub fn more(records: u64, count: u64) -> u64
     ensures { result ≡ plus records count }
 {
-    let seen = weights::VoteWeight::from(records);
-    let all = seen.add(weights::VoteWeight::from(count));
-    all.0
+    records.saturating_add(count)
 }
 
 // The replay after a run over some bytes.

@@ -30,9 +30,7 @@ pub struct Block {
 fn next(records: u64) -> u64
     ensures { result ≡ plus records 1 }
 {
-    let seen = weights::VoteWeight::from(records);
-    let all = seen.add(weights::VoteWeight::from(1));
-    all.0
+    records.saturating_add(1)
 }
 
 fn ended_by(outcome: Outcome, records: u64) -> Ended
@@ -126,17 +124,7 @@ pub fn put(out: &mut [u8], n: u64)
     requires { 8 ≤ length out.old }
     ensures { out.new ≡ little 8 n ++ drop 8 out.old }
 {
-    let word = [
-        (n % 256) as u8,
-        (n / 256 % 256) as u8,
-        (n / 256 / 256 % 256) as u8,
-        (n / 256 / 256 / 256 % 256) as u8,
-        (n / 256 / 256 / 256 / 256 % 256) as u8,
-        (n / 256 / 256 / 256 / 256 / 256 % 256) as u8,
-        (n / 256 / 256 / 256 / 256 / 256 / 256 % 256) as u8,
-        (n / 256 / 256 / 256 / 256 / 256 / 256 / 256 % 256) as u8,
-    ];
-    spans::copy(&word, out);
+    out[..8].copy_from_slice(&n.to_le_bytes());
 }
 
 // Numbers one after the other.

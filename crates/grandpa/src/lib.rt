@@ -1,7 +1,7 @@
 // The numbers of a round, in code where the Rust has them; specs/ says what a round's answers mean.
 #![tactic(auto)]
 
-ghost use Rattle.std.specs.Prelude.{◌≡◌, min};
+ghost use Rattle.std.specs.Prelude.{◌≡◌};
 ghost use Rattle.grandpa.specs.Weight.{threshold};
 ghost use Rattle.grandpa.specs.Possible.{asked, enough};
 
@@ -41,9 +41,9 @@ impl PossibleToPrecommit {
     pub fn new(total: u64, threshold: u64, current: u64, equivocations: u64) -> PossibleToPrecommit
         ensures { result ≡ asked total threshold current equivocations }
     {
-        let tolerated = VoteWeight(total).sub(VoteWeight(threshold));
-        let additional = tolerated.sub(VoteWeight(equivocations));
-        let remaining = VoteWeight(total).sub(VoteWeight(current));
+        let tolerated = VoteWeight(total) - VoteWeight(threshold);
+        let additional = tolerated - VoteWeight(equivocations);
+        let remaining = VoteWeight(total) - VoteWeight(current);
         PossibleToPrecommit {
             current,
             additional: additional.0,
@@ -56,16 +56,10 @@ impl PossibleToPrecommit {
     pub fn holds(self, precommitted: u64) -> bool
         ensures { result ≡ enough self precommitted }
     {
-        let against = VoteWeight(self.current).sub(VoteWeight(precommitted));
-        let equivocations = least(against.0, self.additional);
-        let heard = VoteWeight(precommitted).add(VoteWeight(self.remaining));
-        let full = heard.add(VoteWeight(equivocations));
-        self.threshold <= full.0
+        let against = VoteWeight(self.current) - VoteWeight(precommitted);
+        let equivocations = against.min(VoteWeight(self.additional));
+        let heard = VoteWeight(precommitted) + VoteWeight(self.remaining);
+        let full = heard + equivocations;
+        VoteWeight(self.threshold) <= full
     }
-}
-
-fn least(a: u64, b: u64) -> u64
-    ensures { result ≡ min a b }
-{
-    if a <= b { a } else { b }
 }

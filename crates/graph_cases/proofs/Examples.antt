@@ -11,7 +11,8 @@ use Rattle.grandpa.specs.Tree.{within, below}
 use Rattle.graph.specs.Search.{until, nearest}
 use Rattle.nodes.specs.Columns.{Columns}
 use Rattle.graph_sweeps.specs.Swept.{inside, tied}
-use Rattle.graph_lists.specs.Listed.{struck, none_left, once_each, laid, rising, bare}
+use Rattle.lists.specs.Laid.{struck, none_left, once_each, laid}
+use Rattle.graph_lists.specs.Listed.{rising, bare}
 use Rattle.graph_shape.specs.Graphed.{counted, graphed}
 
 abbrev parents : List ℕ

@@ -4,62 +4,11 @@
 ghost use Rattle.std.specs.Prelude.{◌≡◌, ◌||◌, ◌-◌, ◌≤◌, ◌<◌, eqb, ltb};
 ghost use Rattle.sizes.specs.Sizes.{BLOCKS};
 ghost use Rattle.loops.specs.Listing.{front};
-ghost use Rattle.columns.specs.Blank.{blank};
 ghost use Rattle.nodes.specs.Nodes.{col};
-ghost use Rattle.graph_lists.specs.Listed.{none_left, once_each, laid, childless, rising, zero_bits, bare};
+ghost use Rattle.graph_lists.specs.Listed.{childless, rising, zero_bits, bare};
 
 use climbs::wide;
 use sizes::{BLOCKS, WORDS};
-
-// Whether the first places of a column are the marked ones, once each, and the rest of it is 0.
-pub fn laid<'a>(places: &'a [u8; BLOCKS], n: usize, marks: &'a [bool; BLOCKS]) -> bool
-    requires { n ≤ BLOCKS }
-    ensures { result ≡ laid BLOCKS places.now n marks.now }
-{
-    if !once_each(places, n, marks) {
-        return false;
-    }
-    blank(places, n)
-}
-
-// Each place takes its mark away, so that none comes twice and what is left was missed.
-fn once_each<'a>(places: &'a [u8; BLOCKS], n: usize, marks: &'a [bool; BLOCKS]) -> bool
-    requires { n ≤ BLOCKS }
-    ensures { result ≡ once_each BLOCKS places.now n marks.now }
-{
-    let mut left = *marks;
-    for k in 0..n {
-        let at = wide(places[k]);
-        if !left[at] {
-            return false;
-        }
-        left[at] = false;
-    }
-    none_left(&left)
-}
-
-fn none_left(marks: &[bool; BLOCKS]) -> bool
-    ensures { result ≡ none_left BLOCKS marks.now }
-{
-    for k in 0..BLOCKS {
-        if marks[k] {
-            return false;
-        }
-    }
-    true
-}
-
-fn blank(places: &[u8; BLOCKS], n: usize) -> bool
-    requires { n ≤ BLOCKS }
-    ensures { result ≡ blank places.now n BLOCKS }
-{
-    for k in n..BLOCKS {
-        if places[k] != 0 {
-            return false;
-        }
-    }
-    true
-}
 
 // The nodes that no listed node has above it.
 pub fn childless<'a>(
@@ -119,11 +68,5 @@ pub fn bare<'a>(used: &'a [bool; BLOCKS], rows: &'a [[u64; WORDS]; BLOCKS]) -> b
 fn is_bare(node: bool, bits: [u64; WORDS]) -> bool
     ensures { result ≡ node || zero_bits bits }
 {
-    if node {
-        return true;
-    }
-    if bits[0] != 0 {
-        return false;
-    }
-    bits[1] == 0
+    node || bitfield::is_blank(bits)
 }

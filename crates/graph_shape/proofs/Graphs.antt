@@ -22,7 +22,8 @@ use Rattle.nodes.specs.Nodes.{col, flag, row, Falls}
 use Rattle.nodes.specs.Columns.{Columns, Sized, Sound}
 use Rattle.graph_sweeps.specs.Swept.{inside, tied}
 use Rattle.sizes.specs.Sizes.{WORDS, BLOCKS}
-use Rattle.graph_lists.specs.Listed.{once_each, laid, childless, rising, zero_bits, bare}
+use Rattle.lists.specs.Laid.{once_each, laid}
+use Rattle.graph_lists.specs.Listed.{childless, rising, zero_bits, bare}
 use Rattle.graph_shape.specs.Graphed.{counted, others, graphed, Clear}
 use Rattle.graph_shape.proofs.Counts.{Counts, counted_says, says_counted}
 use Rattle.graph_shape.proofs.Marks.{unset, struck_length, left_says, says_left, blank_padded, padded_blank, Once, once_says, says_once}

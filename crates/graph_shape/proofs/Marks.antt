@@ -19,7 +19,7 @@ use Rattle.columns.specs.Lists.{padded}
 use Rattle.columns.proofs.Padded.{length_padded, get_padded}
 use Rattle.columns.specs.Blank.{blank}
 use Rattle.nodes.specs.Nodes.{col, flag}
-use Rattle.graph_lists.specs.Listed.{struck, unmarked, none_left, fresh, once_each}
+use Rattle.lists.specs.Laid.{struck, unmarked, none_left, fresh, once_each}
 
 pub unset : (marks : List Bool) (x : ℕ) → get_or (set marks x false) x false ≡ false
 unset [] x = refl

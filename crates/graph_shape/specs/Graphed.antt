@@ -8,7 +8,8 @@ use Rattle.nodes.specs.Nodes.{col, flag, row}
 use Rattle.nodes.specs.Columns.{Columns}
 use Rattle.graph_sweeps.specs.Swept.{inside, tied}
 use Rattle.sizes.specs.Sizes.{BLOCKS}
-use Rattle.graph_lists.specs.Listed.{laid, childless, rising, bare}
+use Rattle.lists.specs.Laid.{laid}
+use Rattle.graph_lists.specs.Listed.{childless, rising, bare}
 
 -- counts within sizes; the base is a block of the table, and a node
 unfoldable pub counted : ℕ → ℕ → List Bool → ℕ → ℕ → Bool

@@ -37,11 +37,11 @@ pub fn is_graph<'a>(
     if !graph_sweeps::tied(parents, used, &rest, above) {
         return false;
     }
-    if !graph_lists::laid(order, listed, &rest) {
+    if !lists::laid(order, listed, &rest) {
         return false;
     }
     let ends = graph_lists::childless(used, above, order, listed);
-    if !graph_lists::laid(heads, tips, &ends) {
+    if !lists::laid(heads, tips, &ends) {
         return false;
     }
     if !graph_lists::rising(ids, heads, tips) {

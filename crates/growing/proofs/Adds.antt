@@ -19,10 +19,11 @@ use Rattle.runs.specs.Tried.{Tried, taken_or_not, tried}
 use Rattle.growing.specs.Growing.{added, answered, grown, turn_of}
 use Rattle.std.specs.Prelude.{Option, Some, None, Result, ⊤}
 use Rattle.refusals.specs.declared.Refusal.{Refusal}
+use Rattle.refusals.specs.declared.Refusal.TheVariants.{KnownBlock, UnknownParent, NumberOverflow, TableFull}
 use Rattle.std.specs.declared.ops.ControlFlow.{ControlFlow}
 use Rattle.marks.specs.declared.End.{End}
 
-module _ (t : BlockTable) (id parent : ℕ) (P : Added → Type 0) (no_block : (n : ℕ) → P (refused t n))
+module _ (t : BlockTable) (id parent : ℕ) (P : Added → Type 0) (no_block : (n : Refusal) → P (refused t n))
     (one_more : (above : ℕ) → t.count ≢ BLOCKS → P (placed t id above)) where
   pub by_step : P (step t id parent)
   unfolding step append
@@ -30,20 +31,20 @@ module _ (t : BlockTable) (id parent : ℕ) (P : Added → Type 0) (no_block : (
     where
       counts : contains t.ids t.count id ≡ false → (k : ℕ) → place_of t.ids t.count parent ≡ Some k
           → get_or t.numbers k 0 ≢ 4294967295 → Dec (t.count ≡ BLOCKS) → P (step t id parent)
-      counts e k p n (yes q) = rw (e, p, ne_eqb _ _ n, eq-eqb _ _ q) (no_block 8)
+      counts e k p n (yes q) = rw (e, p, ne_eqb _ _ n, eq-eqb _ _ q) (no_block TableFull)
       counts e k p n (no q) = rw (e, p, ne_eqb _ _ n, ne_eqb _ _ q) (one_more k q)
 
       numbers : contains t.ids t.count id ≡ false → (k : ℕ) → place_of t.ids t.count parent ≡ Some k
           → Dec (get_or t.numbers k 0 ≡ 4294967295) → P (step t id parent)
-      numbers e k p (yes q) = rw (e, p, eq-eqb _ _ q) (no_block 7)
+      numbers e k p (yes q) = rw (e, p, eq-eqb _ _ q) (no_block NumberOverflow)
       numbers e k p (no q) = counts e k p q (ℕ_discrete t.count BLOCKS)
 
       parents : contains t.ids t.count id ≡ false → (p : Option ℕ) → place_of t.ids t.count parent ≡ p → P (step t id parent)
       parents e (Some k) p = numbers e k p (ℕ_discrete (get_or t.numbers k 0) 4294967295)
-      parents e None p = rw (e, p) (no_block 6)
+      parents e None p = rw (e, p) (no_block UnknownParent)
 
       ids : (b : Bool) → contains t.ids t.count id ≡ b → P (step t id parent)
-      ids true e = rw e (no_block 5)
+      ids true e = rw e (no_block KnownBlock)
       ids false e = parents e (place_of t.ids t.count parent) refl
 
 -- what adding leaves, and whether the loop goes on

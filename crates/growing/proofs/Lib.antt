@@ -1,1 +1,2 @@
 pub mod Adds
+mod Others

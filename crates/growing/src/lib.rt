@@ -7,6 +7,7 @@ ghost use Rattle.marks.specs.declared.Mark.TheVariants.{Bk};
 ghost use Rattle.marks.specs.Marks.{size};
 ghost use Rattle.runs.specs.Run.{Run, ran};
 ghost use Rattle.runs.specs.Tried.{Tried, tried};
+ghost use Rattle.std.specs.declared.ops.ControlFlow.TheVariants.{Break};
 ghost use Rattle.blocks.specs.declared.BlockTable.{BlockTable};
 ghost use Rattle.block_index.specs.Index.{Indexed};
 ghost use Rattle.growing.specs.Growing.{grown, turn_of};
@@ -111,10 +112,7 @@ fn take(
     match mark {
         Mark::Bk => grow(ids, numbers, parents, slots, blocks, fields),
         Mark::Op => over(End::Left, blocks),
-        Mark::Vt => over(End::Refused(Refusal::OutOfTurn), blocks),
-        Mark::Rt => over(End::Refused(Refusal::OutOfTurn), blocks),
-        Mark::Pv => over(End::Refused(Refusal::OutOfTurn), blocks),
-        Mark::Pc => over(End::Refused(Refusal::OutOfTurn), blocks),
+        Mark::Vt | Mark::Rt | Mark::Pv | Mark::Pc => over(End::Refused(Refusal::OutOfTurn), blocks),
     }
 }
 

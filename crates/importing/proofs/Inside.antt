@@ -19,7 +19,6 @@ use Rattle.context.specs.declared.Phase.TheVariants.{Prevote, Precommit}
 use Rattle.graph.specs.Graph.{tally, children}
 use Rattle.graph.specs.Ghost.{towards, first_in, meets, merge, settle, under, following, find_ghost}
 use Rattle.graph.proofs.Followed.{under_is, towards_says}
-use Rattle.nodes.specs.declared.Question.{Question}
 use Rattle.nodes.specs.Nodes.{col, Falls, passes}
 use Rattle.nodes.specs.Columns.{Columns, Sound, view}
 use Rattle.vote_merge.specs.Merges.{Lower}

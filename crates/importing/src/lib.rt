@@ -53,9 +53,7 @@ pub fn blank() -> Standing
 fn added(heard: u64, weight: VoterWeight) -> u64
     ensures { result ≡ plus heard weight.0 }
 {
-    let before = VoteWeight::from(heard);
-    let sum = before.add_voter(weight);
-    sum.0
+    (VoteWeight(heard) + weight).0
 }
 
 fn with_heard(heard: Heard, phase: Phase, weight: VoterWeight) -> Heard

@@ -136,7 +136,7 @@ module _ (v : VoterSet) (t : BlockTable) (stands : Stands Kept (growing v t)) (b
 -- the Rt
 module _ (p : Pairs) (bs : List ℕ) (whole : read bs ≡ is.Whole Rt) (fs : List ℕ) (all : fs ≡ fields Rt bs) (m : Result VoterSet Refusal)
     (made : m ≡ new (take p.count p.ids) (take p.count p.weights)) where
-  pub rt_refused : (n : ℕ) → m.answer ≡ voters.Refused n → (j : Journal) → j ≡ laid (pairing p) → ended j 0 bs (Refused n) ≡ run_from (pairing p) bs
+  pub rt_refused : (n : Refusal) → m.answer ≡ voters.Refused n → (j : Journal) → j ≡ laid (pairing p) → ended j 0 bs (Refused n) ≡ run_from (pairing p) bs
   rt_refused n e j f =
       ap (λ (x : Journal). ended x 0 bs (Refused n)) f ∙ sym (root_refused p bs whole n (ap (λ (x : Result VoterSet Refusal). x.answer) (sym made) ∙ e))
 
@@ -178,7 +178,7 @@ module _ (v : VoterSet) (t : BlockTable) (stands : Stands Kept (growing v t)) (u
   grown_cut f j g =
       ap (λ (y : Journal). ended y n (drop a bs) Cut) g ∙ sym (blocks_cut v t u stands.2 n bs (drop a bs) (matched u n (drop a bs) x Cut _ e f))
 
-  pub grown_refused : (k : ℕ) → x ≡ Refused k → (j : Journal) → j ≡ laid (growing v u) → ended j n (drop a bs) (Refused k) ≡ run_from (growing v t) bs
+  pub grown_refused : (k : Refusal) → x ≡ Refused k → (j : Journal) → j ≡ laid (growing v u) → ended j n (drop a bs) (Refused k) ≡ run_from (growing v t) bs
   grown_refused k f j g =
       ap (λ (y : Journal). ended y n (drop a bs) (Refused k)) g
       ∙ sym (blocks_refused v t u stands.2 n bs (drop a bs) k (matched u n (drop a bs) x (Refused k) _ e f))
@@ -201,7 +201,7 @@ module _ (p : Pairs) (few : p.count ≤ PAIRS) (q : Pairs) (n a : ℕ) (bs : Lis
   paired_cut f j g =
       ap (λ (y : Journal). ended y n (drop a bs) Cut) g ∙ sym (voters_cut p q few n bs (drop a bs) (matched q n (drop a bs) x Cut _ e f))
 
-  pub paired_refused : (k : ℕ) → x ≡ Refused k → (j : Journal) → j ≡ laid (pairing q) → ended j n (drop a bs) (Refused k) ≡ run_from (pairing p) bs
+  pub paired_refused : (k : Refusal) → x ≡ Refused k → (j : Journal) → j ≡ laid (pairing q) → ended j n (drop a bs) (Refused k) ≡ run_from (pairing p) bs
   paired_refused k f j g =
       ap (λ (y : Journal). ended y n (drop a bs) (Refused k)) g
       ∙ sym (voters_refused p q few n bs (drop a bs) k (matched q n (drop a bs) x (Refused k) _ e f))

@@ -52,7 +52,7 @@ module _ {S : Type 0} (step : S → Mark → List ℕ → Next S) (e : S → tur
       goes_too s t m fs p q =
           (does s m fs ∙ ap (λ (n : Next S). on_next n (λ t. goes (e t)) stops (left s m fs)) q, subst (Then P) q (keeps s p m fs))
 
-      stops_too : (s : S) (m : Mark) (fs : List ℕ) (k : ℕ) → P s → step s m fs ≡ stops k → took (e s) m fs ≡ stops k
+      stops_too : (s : S) (m : Mark) (fs : List ℕ) (k : Refusal) → P s → step s m fs ≡ stops k → took (e s) m fs ≡ stops k
       stops_too s m fs k p q = does s m fs ∙ ap (λ (n : Next S). on_next n (λ t. goes (e t)) stops (left s m fs)) q
 
   module _ (s t : S) (p : P s) (n : ℕ) (bs rest : List ℕ) where
@@ -61,7 +61,7 @@ module _ {S : Type 0} (step : S → Mark → List ℕ → Next S) (e : S → tur
         from_ended (e s) (e t) n bs rest Cut
         ((carries s p bs).0 ∙ ap (carried took e) (sym q) ∙ carried_cut took e (ended t n rest Cut) refl)
 
-    pub through_refused : (k : ℕ) → ended t n rest (Refused k) ≡ ran step s bs → run_from (e s) bs ≡ ended (laid (e t)) n rest (Refused k)
+    pub through_refused : (k : Refusal) → ended t n rest (Refused k) ≡ ran step s bs → run_from (e s) bs ≡ ended (laid (e t)) n rest (Refused k)
     through_refused k q =
         from_ended (e s) (e t) n bs rest (Refused k)
         ((carries s p bs).0 ∙ ap (carried took e) (sym q) ∙ carried_refused took e (ended t n rest (Refused k)) k refl)
@@ -74,7 +74,7 @@ module _ {S : Type 0} (step : S → Mark → List ℕ → Next S) (e : S → tur
     through_has x q = subst P (sym (ap (λ (r : Run S). r.state) q)) (carries s p bs).1
 
 -- which record ends a turn
-apart : {A : Type 0} {S : Type 0} (k : ℕ) → ◌≡◌ {A = Next S} (stops k) leaves → A
+apart : {A : Type 0} {S : Type 0} (k : Refusal) → ◌≡◌ {A = Next S} (stops k) leaves → A
 apart k e = absurd (let z : ◌≡◌ {A = ℕ} 0 1 = cc in omega arith)
 
 gone : {A : Type 0} {S : Type 0} (s : S) → ◌≡◌ {A = Next S} (goes s) leaves → A
@@ -139,7 +139,7 @@ module _ (p q : Pairs) (few : p.count ≤ PAIRS) (n : ℕ) (bs rest : List ℕ) 
   pub voters_cut : ended q n rest Cut ≡ ran paired p bs → run_from (pairing p) bs ≡ ended (laid (pairing q)) n rest Cut
   voters_cut = through_cut paired pairing (λ p m fs. rooted p fs) does_pair Few paired_few p q few n bs rest
 
-  pub voters_refused : (k : ℕ) → ended q n rest (Refused k) ≡ ran paired p bs → run_from (pairing p) bs ≡ ended (laid (pairing q)) n rest (Refused k)
+  pub voters_refused : (k : Refusal) → ended q n rest (Refused k) ≡ ran paired p bs → run_from (pairing p) bs ≡ ended (laid (pairing q)) n rest (Refused k)
   voters_refused = through_refused paired pairing (λ p m fs. rooted p fs) does_pair Few paired_few p q few n bs rest
 
   pub voters_left : ended q n rest Left ≡ ran paired p bs → run_from (pairing p) bs ≡ counted n (run_from (pairing q) rest)
@@ -160,7 +160,7 @@ module _ (v : VoterSet) (t u : BlockTable) (shaped : Shaped t) (n : ℕ) (bs res
   pub blocks_cut : ended u n rest Cut ≡ ran grown t bs → run_from (growing v t) bs ≡ ended (laid (growing v u)) n rest Cut
   blocks_cut = through_cut grown (growing v) (λ t m fs. based v t fs) does_grow Shaped grown_shaped t u shaped n bs rest
 
-  pub blocks_refused : (k : ℕ) → ended u n rest (Refused k) ≡ ran grown t bs
+  pub blocks_refused : (k : Refusal) → ended u n rest (Refused k) ≡ ran grown t bs
       → run_from (growing v t) bs ≡ ended (laid (growing v u)) n rest (Refused k)
   blocks_refused = through_refused grown (growing v) (λ t m fs. based v t fs) does_grow Shaped grown_shaped t u shaped n bs rest
 

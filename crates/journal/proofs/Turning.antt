@@ -27,6 +27,7 @@ use Rattle.journal.specs.declared.Journal.{Journal}
 use Rattle.journal.specs.Journal.{laid, by_value, run_from}
 use Rattle.std.specs.Prelude.{Option, Some, None}
 use Rattle.refusals.specs.declared.Refusal.TheVariants.{UnknownBase}
+use Rattle.refusals.specs.declared.Refusal.{Refusal}
 
 -- a run that ends at once, and one that goes on
 pub from_ended : (j t : turns.Journal) (n : ℕ) (bs rest : List ℕ) (e : End) → ran took j bs ≡ ended t n rest e → run_from j bs ≡ ended (laid t) n rest e
@@ -63,7 +64,7 @@ module _ (p : Pairs) (part : List ℕ) (whole : read part ≡ is.Whole Rt) where
       (seated (new (take p.count p.ids) (take p.count p.weights)).voters (opened (word (fields Rt part) 0) (word (fields Rt part) 4)))
       e
 
-  pub root_refused : (n : ℕ) → (new (take p.count p.ids) (take p.count p.weights)).answer ≡ Refused n
+  pub root_refused : (n : Refusal) → (new (take p.count p.ids) (take p.count p.weights)).answer ≡ Refused n
       → run_from (pairing p) part ≡ ended (laid (pairing p)) 0 part (end.Refused n)
   root_refused n e = from_ended (pairing p) (pairing p) 0 part part (end.Refused n) (ran_stops took (pairing p) part Rt n whole (at_rt (Refused n) e))
 

@@ -1,3 +1,4 @@
+pub mod Bytes
 pub mod Readings
 pub mod Parts
 pub mod Examples

@@ -38,12 +38,6 @@ fn wide(b: u8) -> u32
     b as u32
 }
 
-fn wider(w: u32) -> u64
-    ensures { (result ≡ w) × (result < 4294967296) }
-{
-    w as u64
-}
-
 // The two bytes go as one number, so that one look tells the mark.
 fn name(mark: u32) -> Option<Mark>
     ensures { result ≡ named mark }
@@ -102,10 +96,7 @@ pub fn word(fields: &[u8], at: usize) -> u32
     requires { at + 4 ≤ length fields.now }
     ensures { (result ≡ word fields.now at) × (result < 4294967296) }
 {
-    wide(fields[at])
-        + 256 * wide(fields[at + 1])
-        + 65536 * wide(fields[at + 2])
-        + 16777216 * wide(fields[at + 3])
+    u32::from_le_bytes(fields[at..at + 4].try_into().unwrap())
 }
 
 // Eight bytes of the fields as a number, the lowest first.
@@ -113,7 +104,7 @@ pub fn long(fields: &[u8], at: usize) -> u64
     requires { at + 8 ≤ length fields.now }
     ensures { result ≡ long fields.now at }
 {
-    wider(word(fields, at)) + 4294967296 * wider(word(fields, at + 4))
+    u64::from_le_bytes(fields[at..at + 8].try_into().unwrap())
 }
 
 // Why no record is whole at the start of some bytes.

@@ -1,18 +1,17 @@
 -- Vote-nodes in columns, and what is asked of their bits. Document 01, "Forms that must change": arrays with counts;
--- conditions are an enum of the two questions, with their numbers beside.
+-- conditions are the two questions, with their numbers beside.
 use Rattle.std.specs.Prelude.{Bool, cond, ◌||◌, List, [], ℕ, zero, suc, leb, eqb, length}
 use Rattle.sizes.specs.Sizes.{BLOCKS}
 use Rattle.loops.specs.Listing.{keep, fold}
 use Rattle.columns.specs.Lists.{padded}
 use Rattle.grandpa.specs.Tree.{below}
 use Rattle.grandpa.specs.Possible.{enough}
+use Rattle.grandpa.specs.declared.PossibleToPrecommit.{PossibleToPrecommit}
+use Rattle.context.specs.declared.Phase.{Phase}
 use Rattle.context.specs.Votes.{voted, weight_of}
 use Rattle.graph.specs.Search.{note}
 pub use Rattle.climbs.specs.Places.{col, flag, row, Falls}
 use Rattle.nodes.specs.declared.Places.{Places}
-use Rattle.nodes.specs.declared.Condition.{Condition}
-use Rattle.nodes.specs.declared.Condition.TheVariants.{AtLeast, Possible}
-use Rattle.nodes.specs.declared.Question.{Question}
 
 -- a list of places as the code holds it
 unfoldable pub placed : List ℕ → Places
@@ -36,9 +35,19 @@ unfoldable pub listed_under : (ℕ → ℕ) → List ℕ → ℕ → List ℕ
 listed_under above order x = keep (λ n. eqb (above n) x) order
 
 -- the two questions: a weight of at least a number; possible, of a precommit weight
+pub data Condition : Type 0 where
+  AtLeast : ℕ → Condition
+  Possible : PossibleToPrecommit → Condition
+
 abbrev pub answered : Condition → ℕ → Bool
 answered (AtLeast t) w = leb t w
 answered (Possible q) w = enough q w
+
+-- a question, the phase it is asked of, and who equivocated
+pub record Question : Type 0 where
+  pub phase : Phase
+  pub condition : Condition
+  pub equivocations : List ℕ
 
 -- asked of the weight in the phase, those who equivocated joined in
 unfoldable pub passes : List ℕ → Question → List ℕ → Bool

@@ -2,16 +2,18 @@
 // its block.
 #![tactic(auto)]
 
-ghost use Rattle.std.specs.Prelude.{◌≡◌, ◌≤◌, ◌<◌};
+ghost use Rattle.std.specs.Prelude.{Bool, ◌≡◌, List, ℕ, ◌≤◌, ◌<◌};
 ghost use Rattle.sizes.specs.Sizes.{BLOCKS};
 ghost use Rattle.loops.specs.Listing.{front, keep};
+ghost use Rattle.context.specs.declared.Phase.TheVariants.{Precommit};
 ghost use Rattle.graph.specs.Graph.{join_of};
 ghost use Rattle.graph.specs.Ghost.{under};
 ghost use Rattle.climbs.specs.Places.{col, row, Falls};
-ghost use Rattle.nodes.specs.Nodes.{placed, passes, listed_under};
+ghost use Rattle.nodes.specs.Nodes.{placed, AtLeast, Possible, passes, listed_under};
+ghost use Rattle.nodes.specs.Tests.{Tests};
 
 use climbs::wide;
-use context::Phase;
+use context::{Phase, weighing};
 use grandpa::PossibleToPrecommit;
 use sizes::{BLOCKS, VOTERS, WORDS};
 
@@ -22,19 +24,48 @@ pub struct Places {
     pub count: usize,
 }
 
-// The two questions that the Rust asks by closures.
-#[derive(Clone, Copy)]
-pub enum Condition {
-    AtLeast(u64),
-    Possible(PossibleToPrecommit),
+// A question that is asked of a node's bits: what the Rust hands its searches as a closure.
+pub trait Asks {
+    ghost asks: { Self → List ℕ → Bool };
+
+    fn passes(&self, bits: [u64; WORDS]) -> bool
+        ensures { result ≡ asks self.now bits };
 }
 
-// A question, the phase it is asked of, and who equivocated.
+// Whether the weight in a phase is at least a threshold, those who equivocated joined in.
 #[derive(Clone, Copy)]
-pub struct Question {
+pub struct Weighty<'a> {
+    pub weights: &'a [u64; VOTERS],
     pub phase: Phase,
-    pub condition: Condition,
+    pub threshold: u64,
     pub equivocations: [u64; WORDS],
+}
+
+impl<'a> Asks for Weighty<'a> {
+    ghost asks = { λ q. passes q.weights.now (record { phase = q.phase; condition = AtLeast q.threshold; equivocations = q.equivocations }) };
+
+    fn passes(&self, bits: [u64; WORDS]) -> bool {
+        let weight = weighing::merged_weight(self.weights, bits, self.equivocations, self.phase);
+        self.threshold <= weight
+    }
+}
+
+// Whether the precommit weight, those who equivocated joined in, can still get the threshold.
+#[derive(Clone, Copy)]
+pub struct Possible<'a> {
+    pub weights: &'a [u64; VOTERS],
+    pub still: PossibleToPrecommit,
+    pub equivocations: [u64; WORDS],
+}
+
+impl<'a> Asks for Possible<'a> {
+    ghost asks = { λ q. passes q.weights.now (record { phase = Precommit; condition = Possible q.still; equivocations = q.equivocations }) };
+
+    fn passes(&self, bits: [u64; WORDS]) -> bool {
+        let phase = Phase::Precommit;
+        let weight = weighing::merged_weight(self.weights, bits, self.equivocations, phase);
+        self.still.holds(weight)
+    }
 }
 
 // The joined bits of the nodes at places.
@@ -55,21 +86,28 @@ pub fn join_of<'a>(
     bits
 }
 
-// Whether a question is answered yes of joined bits.
-pub fn passes(weights: &[u64; VOTERS], question: Question, bits: [u64; WORDS]) -> bool
-    ensures { result ≡ passes weights.now question bits }
+// Those of the first `count` places that pass a test, in their order.
+pub fn keep<F: Fn(u8) -> bool>(places: &[u8; BLOCKS], count: usize, passes: F) -> Places
+    requires fits { count ≤ BLOCKS }
+    requires callable { F.IsAlwaysCallable passes }
+    ensures { (p : ℕ → Bool) → Tests (F.post passes) p → result ≡ placed (keep p (front count places.now)) }
 {
-    let phase = question.phase;
-    let condition = question.condition;
-    let equivocations = question.equivocations;
-    let weight = context::weighing::merged_weight(weights, bits, equivocations, phase);
-    match condition {
-        Condition::AtLeast(threshold) => threshold <= weight,
-        Condition::Possible(possible) => possible.holds(weight),
+    let mut kept = [0u8; BLOCKS];
+    let mut n = 0;
+    for place in &places[..count] {
+        if passes(*place) {
+            kept[n] = *place;
+            n = n + 1;
+        }
+    }
+    Places {
+        places: kept,
+        count: n,
     }
 }
 
 // The nodes listed under a node, in their order.
+#[tactic(auto, unfolding(crate::specs::Nodes::listed_under))]
 pub fn children<'a>(
     above: &'a [u8; BLOCKS],
     order: &'a [u8; BLOCKS],
@@ -79,17 +117,7 @@ pub fn children<'a>(
     requires { listed ≤ BLOCKS }
     ensures { result ≡ placed (listed_under (col above.now) (front listed order.now) node) }
 {
-    let mut places = [0u8; BLOCKS];
-    let mut count = 0;
-    for k in 0..listed {
-        let child = order[k];
-        if above[wide(child)] != node {
-            continue;
-        }
-        places[count] = child;
-        count = count + 1;
-    }
-    Places { places, count }
+    keep(order, listed, |child| above[wide(child)] == node)
 }
 
 // Those of some places that lie strictly below a block.
@@ -102,20 +130,7 @@ pub fn strictly_below<'a>(
     requires { (Falls parents.now) × (count ≤ BLOCKS) }
     ensures { result ≡ placed (keep (under (col parents.now) block) (front count places.now)) }
 {
-    let mut kept = [0u8; BLOCKS];
-    let mut n = 0;
-    for k in 0..count {
-        let place = places[k];
-        if !is_under(parents, block, place) {
-            continue;
-        }
-        kept[n] = place;
-        n = n + 1;
-    }
-    Places {
-        places: kept,
-        count: n,
-    }
+    keep(places, count, |place| is_under(parents, block, place))
 }
 
 fn is_under(parents: &[u8; BLOCKS], block: u8, place: u8) -> bool

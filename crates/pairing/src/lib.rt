@@ -6,6 +6,7 @@ ghost use Rattle.sizes.specs.Sizes.{PAIRS};
 ghost use Rattle.marks.specs.Marks.{size};
 ghost use Rattle.runs.specs.Run.{Run, ran};
 ghost use Rattle.runs.specs.Tried.{Tried, tried};
+ghost use Rattle.std.specs.declared.ops.ControlFlow.TheVariants.{Break};
 ghost use Rattle.pairing.specs.declared.Pairs.{Pairs};
 ghost use Rattle.pairing.specs.Pairing.{paired};
 
@@ -73,10 +74,7 @@ fn take(
             }
         }
         Mark::Rt => over(End::Left, pairs),
-        Mark::Bk => over(End::Refused(Refusal::OutOfTurn), pairs),
-        Mark::Op => over(End::Refused(Refusal::OutOfTurn), pairs),
-        Mark::Pv => over(End::Refused(Refusal::OutOfTurn), pairs),
-        Mark::Pc => over(End::Refused(Refusal::OutOfTurn), pairs),
+        Mark::Bk | Mark::Op | Mark::Pv | Mark::Pc => over(End::Refused(Refusal::OutOfTurn), pairs),
     }
 }
 

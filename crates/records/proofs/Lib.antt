@@ -1,2 +1,4 @@
+pub mod Little
+pub mod Fronts
 pub mod Bytes
 pub mod Examples

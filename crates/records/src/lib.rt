@@ -22,31 +22,12 @@ fn put(out: &mut [u8], second: u8, v: u32, t: u32, n: u32, s: u64)
     requires { 22 ≤ length out.old }
     ensures { out.new ≡ fields second v t n s ++ drop 22 out.old }
 {
-    let rec = [
-        b'P',
-        second,
-        (v % 256) as u8,
-        (v / 256 % 256) as u8,
-        (v / 256 / 256 % 256) as u8,
-        (v / 256 / 256 / 256 % 256) as u8,
-        (t % 256) as u8,
-        (t / 256 % 256) as u8,
-        (t / 256 / 256 % 256) as u8,
-        (t / 256 / 256 / 256 % 256) as u8,
-        (n % 256) as u8,
-        (n / 256 % 256) as u8,
-        (n / 256 / 256 % 256) as u8,
-        (n / 256 / 256 / 256 % 256) as u8,
-        (s % 256) as u8,
-        (s / 256 % 256) as u8,
-        (s / 256 / 256 % 256) as u8,
-        (s / 256 / 256 / 256 % 256) as u8,
-        (s / 256 / 256 / 256 / 256 % 256) as u8,
-        (s / 256 / 256 / 256 / 256 / 256 % 256) as u8,
-        (s / 256 / 256 / 256 / 256 / 256 / 256 % 256) as u8,
-        (s / 256 / 256 / 256 / 256 / 256 / 256 / 256 % 256) as u8,
-    ];
-    spans::copy(&rec, out);
+    out[0] = b'P';
+    out[1] = second;
+    out[2..6].copy_from_slice(&v.to_le_bytes());
+    out[6..10].copy_from_slice(&t.to_le_bytes());
+    out[10..14].copy_from_slice(&n.to_le_bytes());
+    out[14..22].copy_from_slice(&s.to_le_bytes());
 }
 
 // A vote's record, 22 bytes from the start of what is lent; the bytes after it stay.

@@ -25,13 +25,14 @@ use Rattle.replay_laws.specs.Ends.{taken, open_after, stopped_after, Ends, at_en
 use Rattle.replay_laws.proofs.Holds.{replay_not_left, left_cut}
 use Rattle.std.specs.Prelude.{Err}
 use Rattle.refusals.specs.declared.Refusal.TheVariants.{UnknownMark}
+use Rattle.refusals.specs.declared.Refusal.{Refusal}
 
 module _ {S : Type 0} (step : S → Mark → List ℕ → Next S) where
   pub first_goes : (s t : S) (e : Entry) (es : List Entry) → step s e.mark e.fields ≡ goes t → folded step s (e ∷ es) ≡ folded_on (folded step t es)
   unfolding folded
   first_goes s t e es q = rw q
 
-  pub first_stops : (s : S) (e : Entry) (es : List Entry) (k : ℕ) → step s e.mark e.fields ≡ stops k
+  pub first_stops : (s : S) (e : Entry) (es : List Entry) (k : Refusal) → step s e.mark e.fields ≡ stops k
       → folded step s (e ∷ es) ≡ record { state = s; count = 0; end = end.Refused k }
   unfolding folded
   first_stops s e es k q = rw q
@@ -66,7 +67,7 @@ module _ {S : Type 0} (step : S → Mark → List ℕ → Next S) where
     pub takes : (folded step s before).end ≡ Cut
     pub refuses : step (folded step s before).state entry.mark entry.fields ≡ stops k
 
-  pub refused_splits : (s : S) (es : List Entry) (k : ℕ) → (folded step s es).end ≡ end.Refused k → Split s es k
+  pub refused_splits : (s : S) (es : List Entry) (k : Refusal) → (folded step s es).end ≡ end.Refused k → Split s es k
   refused_splits s [] k c =
       let n : (folded step s []).end ≡ Cut = ap (λ (r : Folded S). r.end) (none_taken s) in
       absurd (let z : ◌≡◌ {A = ℕ} 0 1 = cc in omega arith)
@@ -94,14 +95,14 @@ module _ {S : Type 0} (step : S → Mark → List ℕ → Next S) where
             later = es;
             splits = refl;
             takes = ap (λ (r : Folded S). r.end) n;
-            refuses = ap (λ (r : Folded S). step r.state e.mark e.fields) n ∙ q ∙ ap (λ (i : ℕ). stops i) j_k;
+            refuses = ap (λ (r : Folded S). step r.state e.mark e.fields) n ∙ q ∙ ap (λ (i : Refusal). stops i) j_k;
           }
       go leaves q ih =
           let f : (folded step s (e ∷ es)).end ≡ Left = ap (λ (r : Folded S). r.end) (first_leaves s e es q) in
           absurd (let z : ◌≡◌ {A = ℕ} 0 1 = cc in omega arith)
 
   -- and back
-  pub split_refused : (s : S) (before : List Entry) (e : Entry) (later : List Entry) (k : ℕ) → (folded step s before).end ≡ Cut
+  pub split_refused : (s : S) (before : List Entry) (e : Entry) (later : List Entry) (k : Refusal) → (folded step s before).end ≡ Cut
       → step (folded step s before).state e.mark e.fields ≡ stops k
       → folded step s (before ++ (e ∷ later)) ≡ record { state = (folded step s before).state; count = length before; end = end.Refused k }
   split_refused s [] e later k c q =
@@ -135,7 +136,7 @@ pub value_of : (bs : List ℕ) (r : Run turns.Journal) → ran took (pairing no_
 unfolding replayed run_from
 value_of bs r e = ap (λ (x : Run turns.Journal). after_run 0 (by_value x)) e
 
-tail_refused : (bs : List ℕ) (k : ℕ) → tail_end bs ≡ end.Refused k → (read bs ≡ is.Unknown) × (k ≡ 17)
+tail_refused : (bs : List ℕ) (k : Refusal) → tail_end bs ≡ end.Refused k → (read bs ≡ is.Unknown) × (k ≡ 17)
 unfolding tail_end
 tail_refused bs k c = go (read bs) refl
   where
@@ -148,7 +149,7 @@ pub run_end : (bs : List ℕ) (x : End) → (turns.replayed bs).end ≡ x → (r
 unfolding turns.replayed
 run_end bs x e = e
 
-left_not : (bs : List ℕ) (k : ℕ) → (taken (parsed bs)).end ≡ Left → (ran took (pairing no_pairs) bs).end ≡ end.Refused k → ⊥
+left_not : (bs : List ℕ) (k : Refusal) → (taken (parsed bs)).end ≡ Left → (ran took (pairing no_pairs) bs).end ≡ end.Refused k → ⊥
 unfolding after_fold
 left_not bs k c r =
     let l : (ran took (pairing no_pairs) bs).end ≡ Left = ap (λ (x : Run turns.Journal). x.end) (ran_folds took (pairing no_pairs) bs) ∙ rw c in
@@ -170,7 +171,7 @@ module _ (bs : List ℕ) where
   unfolding after_run tail_end
   when_mark c e = value_of bs _ (folds_all took (pairing no_pairs) bs c) ∙ rw e
 
-  when_record : (es : List Entry) (e : Entry) (later : List Entry) (n : ℕ) → parsed bs ≡ es ++ (e ∷ later) → (taken es).end ≡ Cut
+  when_record : (es : List Entry) (e : Entry) (later : List Entry) (n : Refusal) → parsed bs ≡ es ++ (e ∷ later) → (taken es).end ≡ Cut
       → took (taken es).state e.mark e.fields ≡ stops n → replayed bs ≡ stopped_after es n
   unfolding after_run
   when_record es e later n s c q =
@@ -188,16 +189,16 @@ module _ (bs : List ℕ) where
   pub replay_ends : Ends bs (replayed bs)
   replay_ends = by_run (turns.replayed bs).end refl
     where
-      in_mark : (k : ℕ) → (taken (parsed bs)).end ≡ Cut → tail_end (tail bs) ≡ end.Refused k → Ends bs (replayed bs)
+      in_mark : (k : Refusal) → (taken (parsed bs)).end ≡ Cut → tail_end (tail bs) ≡ end.Refused k → Ends bs (replayed bs)
       in_mark k c t = let u = (tail_refused (tail bs) k t).0 in subst (Ends bs) (sym (when_mark c u)) (at_mark c u)
 
-      in_record : (k : ℕ) → (taken (parsed bs)).end ≡ end.Refused k → Ends bs (replayed bs)
+      in_record : (k : Refusal) → (taken (parsed bs)).end ≡ end.Refused k → Ends bs (replayed bs)
       in_record k c =
           let s = refused_splits took (pairing no_pairs) (parsed bs) k c in
           subst (Ends bs) (sym (when_record s.before s.entry s.later k s.splits s.takes s.refuses))
           (at_record s.before s.entry s.later k s.splits s.takes s.refuses)
 
-      by_fold : (k : ℕ) → (ran took (pairing no_pairs) bs).end ≡ end.Refused k → (x : End) → (taken (parsed bs)).end ≡ x → Ends bs (replayed bs)
+      by_fold : (k : Refusal) → (ran took (pairing no_pairs) bs).end ≡ end.Refused k → (x : End) → (taken (parsed bs)).end ≡ x → Ends bs (replayed bs)
       by_fold k r Cut c = in_mark k c (sym (ap (λ (x : Run turns.Journal). x.end) (folds_all took (pairing no_pairs) bs c)) ∙ r)
       by_fold k r (end.Refused j) c = in_record j c
       by_fold k r Left c = absurd (left_not bs k c r)

@@ -71,14 +71,14 @@ module _ (j : turns.Journal) (n : ℕ) (bs : List ℕ) where
   unfolding after_run
   after_cut e = ap (after_run n) (from_ended j run.state run.count bs run.rest end.Cut (ended_at run end.Cut e))
 
-  after_refused : (k : ℕ) → run.end ≡ end.Refused k → after_run n (run_from j bs) ≡ stopped_at run.state (plus n run.count) k
+  after_refused : (k : Refusal) → run.end ≡ end.Refused k → after_run n (run_from j bs) ≡ stopped_at run.state (plus n run.count) k
   unfolding after_run
   after_refused k e =
       ap (after_run n) (from_ended j run.state run.count bs run.rest (end.Refused k) (ended_at run (end.Refused k) e))
 
   -- one of the two it is
   by_ending : (P : Replay → Type 0) → (run.end ≡ end.Cut → P (open_at run.state run.rest (plus n run.count)))
-      → ((k : ℕ) → run.end ≡ end.Refused k → P (stopped_at run.state (plus n run.count) k)) → P (after_run n (run_from j bs))
+      → ((k : Refusal) → run.end ≡ end.Refused k → P (stopped_at run.state (plus n run.count) k)) → P (after_run n (run_from j bs))
   by_ending P f g = go run.end refl
     where
       go : (x : End) → run.end ≡ x → P (after_run n (run_from j bs))
@@ -111,7 +111,7 @@ fed_open j rest n s c b =
     (λ i. answered (after_run n (run_from (told_laid j i) (rest_again rest i ++ b))))
 
 -- what is taken while it is refused stays as it is
-pub fed_stopped : (r : Replay) (k : ℕ) (b : List ℕ) → r.stop ≡ Err k → T (stands r) → fed r b ≡ record { answer = Err k; replay = r }
+pub fed_stopped : (r : Replay) (k : Refusal) (b : List ℕ) → r.stop ≡ Err k → T (stands r) → fed r b ≡ record { answer = Err k; replay = r }
 unfolding fed
 fed_stopped r k b e t =
     on_true (λ (x : Fed). x ≡ record { answer = Err k; replay = r }) (stands r) _ _ t
@@ -131,7 +131,7 @@ module _ (j : turns.Journal) (n : ℕ) (a b : List ℕ) where
   abbrev before : Run turns.Journal
   before = ran took j a
 
-  after_stays : (k : ℕ) → before.end ≡ end.Refused k → after_run n (run_from j (a ++ b)) ≡ after_run n (run_from j a)
+  after_stays : (k : Refusal) → before.end ≡ end.Refused k → after_run n (run_from j (a ++ b)) ≡ after_run n (run_from j a)
   unfolding after_run
   after_stays k e =
       ap (after_run n) (from_ended j before.state before.count (a ++ b) (before.rest ++ b) (end.Refused k) (append_refused took b j a k e))
@@ -198,14 +198,14 @@ module _ (bs : List ℕ) where
   unfolding replayed turns.replayed
   replayed_cut = after_cut (pairing no_pairs) 0 bs
 
-  pub replayed_refused : (k : ℕ) → (turns.replayed bs).end ≡ end.Refused k
+  pub replayed_refused : (k : Refusal) → (turns.replayed bs).end ≡ end.Refused k
       → replayed bs ≡ stopped_at (turns.replayed bs).state (plus 0 (turns.replayed bs).count) k
   unfolding replayed turns.replayed
   replayed_refused = after_refused (pairing no_pairs) 0 bs
 
   pub by_end : (P : Replay → Type 0)
       → ((turns.replayed bs).end ≡ end.Cut → P (open_at (turns.replayed bs).state (turns.replayed bs).rest (plus 0 (turns.replayed bs).count)))
-      → ((k : ℕ) → (turns.replayed bs).end ≡ end.Refused k → P (stopped_at (turns.replayed bs).state (plus 0 (turns.replayed bs).count) k))
+      → ((k : Refusal) → (turns.replayed bs).end ≡ end.Refused k → P (stopped_at (turns.replayed bs).state (plus 0 (turns.replayed bs).count) k))
       → P (replayed bs)
   unfolding replayed turns.replayed
   by_end = by_ending (pairing no_pairs) 0 bs
@@ -216,7 +216,7 @@ module _ (bs : List ℕ) where
   replay_stands = after_stands (pairing no_pairs) (omega arith) 0 bs
 
 -- a refused replay is that of the longer journal too
-pub refused_stays : (a b : List ℕ) (k : ℕ) → (turns.replayed a).end ≡ end.Refused k → replayed (a ++ b) ≡ replayed a
+pub refused_stays : (a b : List ℕ) (k : Refusal) → (turns.replayed a).end ≡ end.Refused k → replayed (a ++ b) ≡ replayed a
 unfolding replayed turns.replayed
 refused_stays a b = after_stays (pairing no_pairs) 0 a b
 

@@ -299,7 +299,7 @@ took_paired (voting r) h m fs =
     through_then Paired voting (voted r m fs) (stops OutOfTurn) (then_all (λ (s : Voting). Unit {0}) (λ s. tt) (voted r m fs)) tt
 
 -- a record that a replay refuses: its number is one of its own
-pub refused_number : (es : List Entry) (e : Entry) (n : ℕ) → took (taken es).state e.mark e.fields ≡ stops n → Own (part_of (taken es).state) e.mark n
+pub refused_number : (es : List Entry) (e : Entry) (n : Refusal) → took (taken es).state e.mark e.fields ≡ stops n → Own (part_of (taken es).state) e.mark n
 refused_number es e n q =
     let h = folded_has took Paired took_paired (pairing no_pairs) es (refl, refl, omega arith) in
     subst (Numbered (Own (part_of (taken es).state) e.mark)) q (took_numbers (taken es).state h e.mark e.fields)

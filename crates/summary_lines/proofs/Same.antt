@@ -16,7 +16,7 @@ module _ (r : Replay) where
   abbrev Same : Result ⊤ Refusal → Turn → Type 0
   Same s t = text_of (summed_by s t r) ≡ lines_by s t r
 
-  of_refused : (n : ℕ) (t : Turn) → Same (Err n) t
+  of_refused : (n : Refusal) (t : Turn) → Same (Err n) t
   unfolding text_of bare
   of_refused n t = refl
 

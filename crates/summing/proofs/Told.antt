@@ -71,7 +71,7 @@ goes_on m n j t a bs e k f r g =
     ∙ ap summed (sym (after_counted m n (run_from t (drop a bs))) ∙ ap (after_run m) (sym e))
 
 -- a refused record
-stops_at : (m n : ℕ) (j : turns.Journal) (s : Journal) (bs rest : List ℕ) (x : ℕ) → run_from j bs ≡ ended s n rest (Refused x)
+stops_at : (m n : ℕ) (j : turns.Journal) (s : Journal) (bs rest : List ℕ) (x : Refusal) → run_from j bs ≡ ended s n rest (Refused x)
     → (k : ℕ) → k ≡ plus m n → (r : Summary) → r ≡ bare (outcome.Refused x) k 0 → r ≡ told m j bs
 unfolding told after_run summed
 stops_at m n j s bs rest x e k f r g =
@@ -96,7 +96,7 @@ module _ (m : ℕ) (p : Pairs) (few : p.count ≤ PAIRS) (q : Pairs) (n a : ℕ)
   pairs_cut f =
       ends_at m n a bs (pairing p) (ap (λ (y : Run Journal). summed (after_run m y)) (voters_cut p q few n bs (drop a bs) (matched Cut f))) k sum r
 
-  pub pairs_refused : (z : ℕ) → x ≡ Refused z → r ≡ bare (outcome.Refused z) k 0 → r ≡ told m (pairing p) bs
+  pub pairs_refused : (z : Refusal) → x ≡ Refused z → r ≡ bare (outcome.Refused z) k 0 → r ≡ told m (pairing p) bs
   pairs_refused z f =
       stops_at m n (pairing p) (laid (pairing q)) bs (drop a bs) z (voters_refused p q few n bs (drop a bs) z (matched (Refused z) f)) k sum r
 
@@ -125,7 +125,7 @@ module _ (m : ℕ) (v : VoterSet) (o : BlockTable) (stands : Stands Kept (growin
     blocks_end f =
         ends_at m n a bs (growing v o) (ap (λ (y : Run Journal). summed (after_run m y)) (blocks_cut v o u stands.2 n bs (drop a bs) (same Cut f))) k sum r
 
-    pub blocks_stop : (z : ℕ) → x ≡ Refused z → r ≡ bare (outcome.Refused z) k 0 → r ≡ told m (growing v o) bs
+    pub blocks_stop : (z : Refusal) → x ≡ Refused z → r ≡ bare (outcome.Refused z) k 0 → r ≡ told m (growing v o) bs
     blocks_stop z f =
         stops_at m n (growing v o) (laid (growing v u)) bs (drop a bs) z (blocks_refused v o u stands.2 n bs (drop a bs) z (same (Refused z) f)) k sum r
 
@@ -138,7 +138,7 @@ opened_room a b t e =
 -- the Rt
 module _ (m : ℕ) (p : Pairs) (bs : List ℕ) (is_rt : read bs ≡ is.Whole Rt) (fs : List ℕ) (all : fs ≡ fields Rt bs) (made : Result VoterSet Refusal)
     (is_made : made ≡ new (take p.count p.ids) (take p.count p.weights)) where
-  pub rt_stop : (z : ℕ) → made.answer ≡ voters.Refused z → (k : ℕ) → k ≡ plus m 0 → (r : Summary) → r ≡ bare (outcome.Refused z) k 0 → r ≡ told m (pairing p) bs
+  pub rt_stop : (z : Refusal) → made.answer ≡ voters.Refused z → (k : ℕ) → k ≡ plus m 0 → (r : Summary) → r ≡ bare (outcome.Refused z) k 0 → r ≡ told m (pairing p) bs
   rt_stop z e =
       stops_at m 0 (pairing p) (laid (pairing p)) bs bs z (root_refused p bs is_rt z (ap (λ (x : Result VoterSet Refusal). x.answer) (sym is_made) ∙ e))
 

@@ -11,7 +11,7 @@ use mir.Val.{Fits}
 use mir.Syntax.{w64}
 use Rattle.loops.specs.Sum.{sum}
 use Rattle.loops.proofs.Sums.{sum_fewer, sum_more}
-use Rattle.totals.specs.declared.Total.TheVariants as total
+use Rattle.std.proofs.Common.{None, Some}
 use Rattle.totals.specs.Totals.{total_of, summed}
 
 -- a sum that is over before the end is over at the end
@@ -19,17 +19,17 @@ pub over : (weights : List ℕ) (k : ℕ) → k < length weights → 2 ^ 64 - 1 
 over weights k h l =
     omega (arith, sum_fewer (k + 1) (length weights) (λ j. get_or weights j 0) (omega arith), sum_more k (λ j. get_or weights j 0))
 
-pub summed_over : (t : ℕ) → summed t ≡ total.Over → ltb (2 ^ 64 - 1) t ≡ true
+pub summed_over : (t : ℕ) → summed t ≡ None → ltb (2 ^ 64 - 1) t ≡ true
 summed_over t = go (ltb (2 ^ 64 - 1) t)
   where
-    go : (b : Bool) → cond b total.Over (total.Fits t) ≡ total.Over → b ≡ true
+    go : (b : Bool) → cond b None (Some t) ≡ None → b ≡ true
     go true e = refl
     go false e = absurd (let z : ◌≡◌ {A = ℕ} 0 1 = cc in omega arith)
 
-pub summed_fits : (t x : ℕ) → summed t ≡ total.Fits x → (ltb (2 ^ 64 - 1) t ≡ false) × (x ≡ t)
+pub summed_fits : (t x : ℕ) → summed t ≡ Some x → (ltb (2 ^ 64 - 1) t ≡ false) × (x ≡ t)
 summed_fits t x = go (ltb (2 ^ 64 - 1) t)
   where
-    go : (b : Bool) → cond b total.Over (total.Fits t) ≡ total.Fits x → (b ≡ false) × (x ≡ t)
+    go : (b : Bool) → cond b None (Some t) ≡ Some x → (b ≡ false) × (x ≡ t)
     go true e = absurd (let z : ◌≡◌ {A = ℕ} 0 1 = cc in omega arith)
     go false e = (refl, cc)
 

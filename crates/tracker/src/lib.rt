@@ -5,7 +5,7 @@
 ghost use Rattle.std.specs.Prelude.{◌≡◌, ◌<◌};
 ghost use Rattle.sizes.specs.Sizes.{VOTES};
 ghost use Rattle.lent.specs.Moment.{before};
-ghost use Rattle.tracker.specs.Recorded.{same, add_vote, first_pair, recorded};
+ghost use Rattle.tracker.specs.Recorded.{add_vote, first_pair, recorded};
 ghost use Rattle.tracker.specs.Votes.{votes_at, no_votes};
 
 use sizes::{BLOCKS, VOTES};
@@ -23,7 +23,7 @@ pub struct Votes {
 }
 
 // A vote and its signature.
-#[derive(Clone, Copy)]
+#[derive(Clone, Copy, PartialEq, Eq)]
 pub struct Pair {
     pub target: u32,
     pub number: u32,
@@ -59,39 +59,18 @@ pub fn no_votes() -> Votes
     }
 }
 
-fn same(a: Pair, b: Pair) -> bool
-    ensures { result ≡ same a b }
-{
-    if a.target != b.target {
-        return false;
-    }
-    if a.number != b.number {
-        return false;
-    }
-    a.signature == b.signature
-}
-
 // What a pair is to those that are recorded.
 pub fn add_vote(recorded: VoteMultiplicity, pair: Pair) -> AddVoteResult
     ensures { result ≡ add_vote recorded pair }
 {
     match recorded {
         VoteMultiplicity::Silent => AddVoteResult::Single,
-        VoteMultiplicity::Single(first) => {
-            if same(first, pair) {
-                return AddVoteResult::Duplicated;
-            }
-            AddVoteResult::Equivocated(first)
+        VoteMultiplicity::Single(first) if first == pair => AddVoteResult::Duplicated,
+        VoteMultiplicity::Single(first) => AddVoteResult::Equivocated(first),
+        VoteMultiplicity::Equivocated(first, second) if first == pair || second == pair => {
+            AddVoteResult::Duplicated
         }
-        VoteMultiplicity::Equivocated(first, second) => {
-            if same(first, pair) {
-                return AddVoteResult::Duplicated;
-            }
-            if same(second, pair) {
-                return AddVoteResult::Duplicated;
-            }
-            AddVoteResult::Ignored
-        }
+        VoteMultiplicity::Equivocated(_, _) => AddVoteResult::Ignored,
     }
 }
 

@@ -1,12 +1,16 @@
 -- The comparison passes exactly where number, base, voters and table are one.
 use mathlib.Core.List.{List}
-use mathlib.Core.Path.{◌≡◌, refl, subst}
+use mathlib.Core.Bool.{Bool, true, false, ◌&&◌}
+use mathlib.Core.Path.{◌≡◌, refl, sym, subst}
 use Prim.Native.Nat.{ℕ}
 use lib.Dec.{T, eqb, eqb→eq}
 use lib.ListN.{length, get_or}
 use lib.Seq.{ext_get_or}
+use lib.Pointwise.{pointwise}
 use borrow.Author.Tests.{eq-eqb}
-use Rattle.loops.proofs.Tests.{T_true, both, left_of, right_of}
+use Rattle.std.specs.Cmp.Lexicographic.{same_text}
+use Rattle.std.proofs.lemmas.Cmp.{nat_list_eq_equiv}
+use Rattle.loops.proofs.Tests.{T_true, true_T, both, left_of, right_of, same_test, and_true, and_false}
 use Rattle.loops.proofs.Alls.{all_at, all_intro}
 use Rattle.voter_set.specs.declared.VoterSet.{VoterSet}
 use Rattle.blocks.specs.declared.BlockTable.{BlockTable}
@@ -69,6 +73,41 @@ table_self a =
     both (eqb a.count a.count) _ (self a.count)
     (both (same a.ids a.ids) _ (same_self a.ids)
     (both (same a.numbers a.numbers) _ (same_self a.numbers) (same_self a.parents)))
+
+-- the library's comparison of two columns is ours
+pub same_eq : (xs ys : List ℕ) → pointwise eqb xs ys ≡ same xs ys
+same_eq xs ys =
+    same_test (pointwise eqb xs ys) (same xs ys)
+    (λ t. subst (λ (zs : List ℕ). T (same xs zs)) (same_text xs ys (sym (true_T _ t))) (same_self xs))
+    (λ t. T_true (subst (λ (zs : List ℕ). pointwise eqb xs zs ≡ true) (same_means xs ys t) (nat_list_eq_equiv.refl xs)))
+
+-- tests in another order
+turned_5 : (i w c t s : Bool) → (i && (w && (c && (t && s)))) ≡ (c && (t && (s && (i && w))))
+turned_5 true true c t s = rw (and_true s) refl
+turned_5 true false c t s = rw (and_false s, and_false t, and_false c) refl
+turned_5 false w c t s = rw (and_false s, and_false t, and_false c) refl
+
+turned_4 : (i n p c : Bool) → (i && (n && (p && c))) ≡ (c && (i && (n && p)))
+turned_4 true true true c = rw (and_true c) refl
+turned_4 true true false c = rw (and_false c) refl
+turned_4 true false p c = rw (and_false c) refl
+turned_4 false n p c = rw (and_false c) refl
+
+-- a voter set's comparison field by field, and a table's
+pub voters_eq : (a b : VoterSet)
+    → (pointwise eqb a.ids b.ids && (pointwise eqb a.weights b.weights && (eqb a.count b.count && (eqb a.threshold b.threshold && eqb a.total b.total))))
+    ≡ same_voters a b
+unfolding same_voters
+voters_eq a b =
+    rw (same_eq a.ids b.ids, same_eq a.weights b.weights)
+    (turned_5 (same a.ids b.ids) (same a.weights b.weights) (eqb a.count b.count) (eqb a.threshold b.threshold) (eqb a.total b.total))
+
+pub table_eq : (a b : BlockTable)
+    → (pointwise eqb a.ids b.ids && (pointwise eqb a.numbers b.numbers && (pointwise eqb a.parents b.parents && eqb a.count b.count))) ≡ same_table a b
+unfolding same_table
+table_eq a b =
+    rw (same_eq a.ids b.ids, same_eq a.numbers b.numbers, same_eq a.parents b.parents)
+    (turned_4 (same a.ids b.ids) (same a.numbers b.numbers) (same a.parents b.parents) (eqb a.count b.count))
 
 module _ (a b : Round) where
   pub agree_means : T (agree a b) → One a b

@@ -6,7 +6,7 @@ use native.Mathlib.Omega.{arith}
 use lib.Dec.{T}
 use lib.ListN.{get_or}
 use Rattle.sizes.specs.Sizes.{VOTERS}
-use Rattle.loops.specs.Sum.{sum, weigh}
+use Rattle.loops.specs.Sum.{weigh}
 use Rattle.loops.proofs.Tests.{true_T, left_of, right_of}
 use Rattle.loops.proofs.Sums.{sum_fewer, weigh_le}
 use Rattle.weights.specs.Weights.{most}

@@ -1,24 +1,20 @@
--- The ways through the code: one voter's votes, a turn of the sum, the comparison of two columns.
+-- The ways through the code: one voter's votes, a turn of the sum.
 use mathlib.Core.Bool.{Bool, true, false, cond, not}
 use mathlib.Core.List.{List}
-use mathlib.Core.Path.{◌≡◌, refl, ap, ◌∙◌}
-use mathlib.Core.Logic.{◌≢◌}
+use mathlib.Core.Path.{◌≡◌, refl, ap}
 use Prim.Native.Nat.{ℕ, zero, suc, ◌+◌, ◌≤◌, ◌<◌}
 use native.Mathlib.Omega.{arith}
 use lib.Dec.{eqb}
-use lib.ListN.{length, get_or}
-use borrow.Author.Tests.{eq-eqb, ne_eqb}
-use Rattle.loops.specs.All.{all}
-use Rattle.loops.proofs.Alls.{all_false}
+use lib.ListN.{get_or}
 use Rattle.loops.proofs.Sums.{sum_none, sum_more}
 use Rattle.weights.specs.Weights.{plus}
-use Rattle.grandpa.specs.Vote.{Vote, silent}
-use Rattle.grandpa.specs.Views.{differ, differ_from}
+use Rattle.grandpa.specs.Vote.{silent}
+use Rattle.grandpa.specs.Views.{differ}
 use Rattle.context.specs.declared.Phase.TheVariants.{Precommit}
 use Rattle.context.specs.Votes.{bit}
 use Rattle.nodes.specs.Nodes.{col}
 use Rattle.tracker.specs.Recorded.{cast_of}
-use Rattle.two_views.specs.Views.{apart, differing, same}
+use Rattle.two_views.specs.Views.{apart, differing}
 
 module _ (counts first_block others theirs : List ℕ) where
   -- one voter: the votes at an index, by how often it voted
@@ -81,17 +77,3 @@ module _ (counts first_block others theirs : List ℕ) where
     unfolding differing
     differing_more k e =
         omega (arith, sum_more k (λ p. cond (apart counts first_block others theirs (bit Precommit p)) (get_or weights p 0) 0), ap (λ (b : Bool). cond b (get_or weights k 0) 0) e)
-
--- the comparison of two columns
-module _ (xs ys : List ℕ) where
-  pub same_longer : length xs ≢ length ys → same xs ys ≡ false
-  unfolding same
-  same_longer h = rw (ne_eqb _ _ h)
-
-  pub same_off : length xs ≡ length ys → (k : ℕ) → k < length xs → get_or xs k 0 ≢ get_or ys k 0 → same xs ys ≡ false
-  unfolding same
-  same_off e k l h = rw (eq-eqb _ _ e) (all_false (λ i. eqb (get_or xs i 0) (get_or ys i 0)) (length xs) k l (ne_eqb _ _ h))
-
-  pub same_on : length xs ≡ length ys → all (length xs) (λ k. eqb (get_or xs k 0) (get_or ys k 0)) ≡ true → same xs ys ≡ true
-  unfolding same
-  same_on e h = rw (eq-eqb _ _ e) h

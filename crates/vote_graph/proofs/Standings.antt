@@ -16,9 +16,8 @@ use Rattle.blocks.specs.Add.{place_of, on_place}
 use Rattle.block_laws.proofs.Adds.{found_stands}
 use Rattle.graph.specs.Ghost as steps
 use Rattle.graph.specs.Graph.{tally}
-use Rattle.nodes.specs.Nodes.{col, flag, Falls, passes}
+use Rattle.nodes.specs.Nodes.{col, flag, Falls}
 use Rattle.nodes.specs.Columns.{Columns, Sound, view}
-use Rattle.nodes.specs.declared.Question.{Question}
 use Rattle.graph_rows.specs.declared.Row.{Row}
 use Rattle.graph_rows.specs.Rows.{words_of, rows_of}
 use Rattle.vote_insert.specs.Insert.{inserted, Insertable}
@@ -131,17 +130,17 @@ module _ (g : VoteGraph) (t : BlockTable) (k : ℕ) (w : List (List ℕ)) (e : w
   unfolding tally_of
   tally_is r q = q ∙ ap (λ (v : List (List ℕ)). tallied t.parents g.used g.above v g.heads g.tips k) e
 
-  module _ (weights : List ℕ) (q : Question) where
+  module _ (ok : List ℕ → Bool) where
     pub ancestor_is : (r : Option ℕ)
-        → r ≡ (steps.find_ancestor (col t.parents) (unlisted g.used w g.heads g.tips) g.base (passes weights q) k)
-        → r ≡ ancestor_of g t weights q k
+        → r ≡ (steps.find_ancestor (col t.parents) (unlisted g.used w g.heads g.tips) g.base ok k)
+        → r ≡ ancestor_of g t ok k
     unfolding ancestor_of steps.find_ancestor tally
     ancestor_is r p =
-        p ∙ ap (λ (v : List (List ℕ)). (steps.find_ancestor (col t.parents) (unlisted g.used v g.heads g.tips) g.base (passes weights q) k)) e
+        p ∙ ap (λ (v : List (List ℕ)). (steps.find_ancestor (col t.parents) (unlisted g.used v g.heads g.tips) g.base ok k)) e
 
-    pub ghost_is : (r : Option ℕ) → r ≡ (steps.find_ghost (col t.parents) (view (lent g w)) (passes weights q) k) → r ≡ ghost_of g t weights q k
+    pub ghost_is : (r : Option ℕ) → r ≡ (steps.find_ghost (col t.parents) (view (lent g w)) ok k) → r ≡ ghost_of g t ok k
     unfolding ghost_of
-    ghost_is r p = p ∙ ap (λ (v : List (List ℕ)). (steps.find_ghost (col t.parents) (view (lent g v)) (passes weights q) k)) e
+    ghost_is r p = p ∙ ap (λ (v : List (List ℕ)). (steps.find_ghost (col t.parents) (view (lent g v)) ok k)) e
 
 -- the bits that `cumulative_vote` gives are the graph's
 pub tally_told : (g : VoteGraph) (t : BlockTable) (k : ℕ) → Standing g t k → (tally_of g t k).bits ≡ tally (col t.parents) (view (columns g)) k

@@ -5,9 +5,8 @@ use Rattle.grandpa.specs.Tree.{below}
 use Rattle.blocks.specs.declared.BlockTable.{BlockTable}
 use Rattle.blocks.specs.Add.{place_of, on_place}
 use Rattle.graph.specs.Ghost as ghost_steps
-use Rattle.nodes.specs.Nodes.{col, passes}
+use Rattle.nodes.specs.Nodes.{col}
 use Rattle.nodes.specs.Columns.{view}
-use Rattle.nodes.specs.declared.Question.{Question}
 use Rattle.vote_insert.specs.Insert.{inserted}
 use Rattle.vote_search.specs.declared.Tally.{Tally}
 use Rattle.vote_search.specs.Searches.{tallied}
@@ -48,22 +47,21 @@ cumulative_vote g t id =
     (Err Misshapen)
 
 -- `find_ancestor`
-unfoldable pub ancestor_of : VoteGraph → BlockTable → List ℕ → Question → ℕ → Option ℕ
-ancestor_of g t weights q k =
-    ghost_steps.find_ancestor (col t.parents) (view (columns g)) g.base (passes weights q) k
+unfoldable pub ancestor_of : VoteGraph → BlockTable → (List ℕ → Bool) → ℕ → Option ℕ
+ancestor_of g t ok k = ghost_steps.find_ancestor (col t.parents) (view (columns g)) g.base ok k
 
-unfoldable pub find_ancestor : VoteGraph → BlockTable → List ℕ → Question → ℕ → Result (Option ℕ) Refusal
-find_ancestor g t weights q id =
+unfoldable pub find_ancestor : VoteGraph → BlockTable → (List ℕ → Bool) → ℕ → Result (Option ℕ) Refusal
+find_ancestor g t ok id =
     cond (is_graph g t)
-    (on_target (target t.ids t.parents t.count g.base id) (λ k. Ok (ancestor_of g t weights q k)) Err)
+    (on_target (target t.ids t.parents t.count g.base id) (λ k. Ok (ancestor_of g t ok k)) Err)
     (Err Misshapen)
 
 -- `find_ghost`
-unfoldable pub ghost_of : VoteGraph → BlockTable → List ℕ → Question → ℕ → Option ℕ
-ghost_of g t weights q k = (ghost_steps.find_ghost (col t.parents) (view (columns g)) (passes weights q) k)
+unfoldable pub ghost_of : VoteGraph → BlockTable → (List ℕ → Bool) → ℕ → Option ℕ
+ghost_of g t ok k = (ghost_steps.find_ghost (col t.parents) (view (columns g)) ok k)
 
-unfoldable pub find_ghost : VoteGraph → BlockTable → List ℕ → Question → Option ℕ → Result (Option ℕ) Refusal
-find_ghost g t weights q from =
+unfoldable pub find_ghost : VoteGraph → BlockTable → (List ℕ → Bool) → Option ℕ → Result (Option ℕ) Refusal
+find_ghost g t ok from =
     cond (is_graph g t)
-    (on_target (start t.parents t.count g.base from) (λ k. Ok (ghost_of g t weights q k)) Err)
+    (on_target (start t.parents t.count g.base from) (λ k. Ok (ghost_of g t ok k)) Err)
     (Err Misshapen)

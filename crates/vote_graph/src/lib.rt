@@ -9,9 +9,9 @@ ghost use Rattle.vote_graph.specs.Calls.{voted, insert, tally_of, cumulative_vot
 
 use blocks::BlockTable;
 use graph_rows::Row;
-use nodes::Question;
+use nodes::Asks;
 use refusals::Refusal;
-use sizes::{BLOCKS, VOTERS, WORDS};
+use sizes::{BLOCKS, WORDS};
 use vote_search::Tally;
 
 // Where a block stands that a call names, or why it is refused.
@@ -202,31 +202,24 @@ impl VoteGraph {
     }
 
     // The first block from a block towards the base whose bits answer a question with yes.
-    pub fn find_ancestor(
+    pub fn find_ancestor<Q: Asks>(
         self,
         table: BlockTable,
-        weights: &[u64; VOTERS],
-        question: Question,
+        question: &Q,
         block: u32,
     ) -> Result<Option<u8>, Refusal>
-        ensures { result ≡ find_ancestor self table weights.now question block }
+        ensures { result ≡ find_ancestor self table (Q.asks question.now) block }
     {
         if !self.is_graph(table) {
             return Err(Refusal::Misshapen);
         }
         let place = named::of(&table.ids, &table.parents, table.count, self.base, block)?;
-        Ok(self.ancestor(table, weights, question, place))
+        Ok(self.ancestor(table, question, place))
     }
 
-    fn ancestor(
-        self,
-        table: BlockTable,
-        weights: &[u64; VOTERS],
-        question: Question,
-        place: u8,
-    ) -> Option<u8>
+    fn ancestor<Q: Asks>(self, table: BlockTable, question: &Q, place: u8) -> Option<u8>
         requires { Standing self table place }
-        ensures { result ≡ ancestor_of self table weights.now question place }
+        ensures { result ≡ ancestor_of self table (Q.asks question.now) place }
     {
         let rows = self.rows;
         let words = graph_rows::words_of(rows);
@@ -237,7 +230,6 @@ impl VoteGraph {
             &words,
             &self.heads,
             self.tips,
-            weights,
             self.base,
             question,
             place,
@@ -246,31 +238,24 @@ impl VoteGraph {
 
     // From a block down the nodes that answer a question with yes, and then to the merge point; from the base, where no
     // block is named.
-    pub fn find_ghost(
+    pub fn find_ghost<Q: Asks>(
         self,
         table: BlockTable,
-        weights: &[u64; VOTERS],
-        question: Question,
+        question: &Q,
         start: Option<u8>,
     ) -> Result<Option<u8>, Refusal>
-        ensures { result ≡ find_ghost self table weights.now question start }
+        ensures { result ≡ find_ghost self table (Q.asks question.now) start }
     {
         if !self.is_graph(table) {
             return Err(Refusal::Misshapen);
         }
         let place = named::start(&table.parents, table.count, self.base, start)?;
-        Ok(self.heaviest(table, weights, question, place))
+        Ok(self.heaviest(table, question, place))
     }
 
-    fn heaviest(
-        self,
-        table: BlockTable,
-        weights: &[u64; VOTERS],
-        question: Question,
-        place: u8,
-    ) -> Option<u8>
+    fn heaviest<Q: Asks>(self, table: BlockTable, question: &Q, place: u8) -> Option<u8>
         requires { Standing self table place }
-        ensures { result ≡ ghost_of self table weights.now question place }
+        ensures { result ≡ ghost_of self table (Q.asks question.now) place }
     {
         let rows = self.rows;
         let words = graph_rows::words_of(rows);
@@ -283,7 +268,6 @@ impl VoteGraph {
             self.listed,
             &self.heads,
             self.tips,
-            weights,
             question,
             place,
         )

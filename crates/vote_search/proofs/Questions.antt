@@ -12,10 +12,7 @@ use Rattle.loops.proofs.Tests.{in_left, in_right, either}
 use Rattle.loops.proofs.Sums.{weigh_mono}
 use Rattle.bitfield.specs.Bits.{has}
 use Rattle.context.specs.Votes.{bit, voted, weight_of}
-use Rattle.nodes.specs.declared.Condition.{Condition}
-use Rattle.nodes.specs.declared.Condition.TheVariants.{AtLeast, Possible}
-use Rattle.nodes.specs.declared.Question.{Question}
-use Rattle.nodes.specs.Nodes.{answered, passes}
+use Rattle.nodes.specs.Nodes.{Condition, AtLeast, Possible, answered, Question, passes}
 
 -- either question, of the larger weight
 pub answered_mono : (q : Condition) (m n : ℕ) → m ≤ n → T (answered q m) → T (answered q n)

@@ -15,8 +15,7 @@ use Rattle.context.specs.declared.Phase.TheVariants.{Precommit}
 use Rattle.context.specs.Votes.{voted, weight_of}
 use Rattle.graph.specs.Graph.{Graph}
 use Rattle.graph.specs.Ghost.{find_ancestor}
-use Rattle.nodes.specs.declared.Condition.TheVariants.{AtLeast, Possible}
-use Rattle.nodes.specs.Nodes.{col, passes}
+use Rattle.nodes.specs.Nodes.{col, AtLeast, Possible, passes}
 use Rattle.nodes.specs.Columns.{Columns, Sound}
 use Rattle.vote_search.specs.declared.Tally.{Tally}
 use Rattle.vote_search.specs.declared.Both.{Both}

@@ -8,10 +8,7 @@ use Rattle.context.specs.declared.Phase.TheVariants.{Precommit}
 use Rattle.graph.specs.Search.{nearest}
 use Rattle.graph.specs.Graph.{Graph, join_of}
 use Rattle.graph.specs.Ghost.{is_nil, under, find_ancestor}
-use Rattle.nodes.specs.declared.Condition.{Condition}
-use Rattle.nodes.specs.declared.Condition.TheVariants.{AtLeast, Possible}
-use Rattle.nodes.specs.declared.Question.{Question}
-use Rattle.nodes.specs.Nodes.{col, flag, row, found, listed_under, passes}
+use Rattle.nodes.specs.Nodes.{col, flag, row, found, listed_under, Condition, AtLeast, Possible, Question, passes}
 use Rattle.nodes.specs.Columns.{Columns, Sound}
 use Rattle.vote_search.specs.declared.Tally.{Tally}
 use Rattle.vote_search.specs.declared.Both.{Both}

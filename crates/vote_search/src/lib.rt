@@ -4,7 +4,7 @@
 ghost use Rattle.std.specs.Prelude.{◌≡◌, List, ℕ, ◌≤◌};
 ghost use Rattle.sizes.specs.Sizes.{BLOCKS};
 ghost use Rattle.graph.specs.Ghost.{find_ancestor, descend, find_ghost};
-ghost use Rattle.nodes.specs.Nodes.{col, Falls, placed, passes};
+ghost use Rattle.nodes.specs.Nodes.{col, Falls, placed};
 ghost use Rattle.lent.specs.Moment.{given, before, plain};
 ghost use Rattle.nodes.specs.Columns.{graph_at, view};
 ghost use Rattle.vote_search.specs.Searches.{tallied, followed, Stands, unlisted, unheaded, or_else, this, both};
@@ -12,7 +12,7 @@ ghost use Rattle.vote_search.specs.Searches.{tallied, followed, Stands, unlisted
 use climbs::wide;
 use context::Phase;
 use grandpa::PossibleToPrecommit;
-use nodes::{Places, Question};
+use nodes::{Asks, Places};
 use sizes::{BLOCKS, VOTERS, WORDS};
 
 // A block's bits, and whether it is in the graph at all.
@@ -62,20 +62,19 @@ pub fn cumulative_vote<'a>(
 
 // The first block from a block towards the base whose bits answer a question with yes. Nothing where none does, or where
 // the block is not in the graph.
-pub fn find_ancestor<'a>(
+pub fn find_ancestor<'a, Q: Asks>(
     parents: &'a [u8; BLOCKS],
     used: &'a [bool; BLOCKS],
     above: &'a [u8; BLOCKS],
     rows: &'a [[u64; WORDS]; BLOCKS],
     heads: &'a [u8; BLOCKS],
     tips: usize,
-    weights: &'a [u64; VOTERS],
     base: u8,
-    question: Question,
+    question: &'a Q,
     block: u8,
 ) -> Option<u8>
     requires { (order : List ℕ) × (listed : ℕ) × Stands parents.now base (graph_at plain used.now above.now rows.now order listed heads.now tips) block }
-    ensures { result ≡ find_ancestor (col parents.now) (unlisted used.now rows.now heads.now tips) base (passes weights.now question) block }
+    ensures { result ≡ find_ancestor (col parents.now) (unlisted used.now rows.now heads.now tips) base (Q.asks question.now) block }
 {
     let mut at = block;
     let found = loop {
@@ -84,7 +83,7 @@ pub fn find_ancestor<'a>(
             break None;
         }
         let bits = tally.bits;
-        if nodes::passes(weights, question, bits) {
+        if question.passes(bits) {
             break Some(at);
         }
         if at == base {
@@ -183,29 +182,28 @@ fn following<'a>(
 
 // From a block that answers a question with yes down the nodes that do, the first of each list, and then to the merge
 // point.
-pub fn descend<'a>(
+pub fn descend<'a, Q: Asks>(
     parents: &'a [u8; BLOCKS],
     used: &'a [bool; BLOCKS],
     above: &'a [u8; BLOCKS],
     rows: &'a [[u64; WORDS]; BLOCKS],
     order: &'a [u8; BLOCKS],
     listed: usize,
-    weights: &'a [u64; VOTERS],
-    question: Question,
+    question: &'a Q,
     block: u8,
 ) -> u8
     requires { (heads : List ℕ) × (tips : ℕ) × (base : ℕ) × Stands parents.now base (graph_at plain used.now above.now rows.now order.now listed heads tips) block }
-    ensures { result ≡ descend (col parents.now) (unheaded used.now rows.now order.now listed) (passes weights.now question) block }
+    ensures { result ≡ descend (col parents.now) (unheaded used.now rows.now order.now listed) (Q.asks question.now) block }
 {
     let follow = following(parents, used, above, order, listed, block);
     let mut last = block;
     let mut places = follow.places;
     let mut count = follow.count;
     loop {
-        let child = vote_merge::first_passing(rows, weights, question, &places, count);
+        let child = vote_merge::first_passing(rows, question, &places, count);
         if child == 0 {
             let nodes = Places { places, count };
-            return vote_merge::merge_point(parents, rows, weights, question, nodes, last);
+            return vote_merge::merge_point(parents, rows, question, nodes, last);
         }
         let next = nodes::children(above, order, listed, child);
         let lower = next.places;
@@ -217,7 +215,7 @@ pub fn descend<'a>(
 
 // From a block down the nodes that answer a question with yes, the first of each list, and then to the merge point.
 // Nothing where the block itself does not.
-pub fn find_ghost<'a>(
+pub fn find_ghost<'a, Q: Asks>(
     parents: &'a [u8; BLOCKS],
     used: &'a [bool; BLOCKS],
     above: &'a [u8; BLOCKS],
@@ -226,19 +224,16 @@ pub fn find_ghost<'a>(
     listed: usize,
     heads: &'a [u8; BLOCKS],
     tips: usize,
-    weights: &'a [u64; VOTERS],
-    question: Question,
+    question: &'a Q,
     block: u8,
 ) -> Option<u8>
     requires { (base : ℕ) × Stands parents.now base (graph_at given used above rows order listed heads tips) block }
-    ensures { result ≡ find_ghost (col parents.now) (view (graph_at before used above rows order listed heads tips)) (passes weights.now question) block }
+    ensures { result ≡ find_ghost (col parents.now) (view (graph_at before used above rows order listed heads tips)) (Q.asks question.now) block }
 {
     let start = cumulative_vote(parents, used, above, rows, heads, tips, block);
     let bits = start.bits;
-    if !nodes::passes(weights, question, bits) {
+    if !question.passes(bits) {
         return None;
     }
-    Some(descend(
-        parents, used, above, rows, order, listed, weights, question, block,
-    ))
+    Some(descend(parents, used, above, rows, order, listed, question, block))
 }

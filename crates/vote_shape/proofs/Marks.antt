@@ -1,15 +1,15 @@
 -- Marks of the places that pass a test, and the loops that set them.
-use mathlib.Core.Bool.{Bool, true, false, ◌&&◌, ◌||◌}
+use mathlib.Core.Bool.{Bool, true, false, ◌||◌}
 use mathlib.Core.List.{List, [], ◌∷◌, ◌++◌}
 use mathlib.Core.Path.{◌≡◌, refl, sym, ap, subst, ◌∙◌}
 use mathlib.Core.Logic.{◌≢◌}
-use Prim.Native.Nat.{ℕ, zero, suc, ◌+◌, ◌≤◌, ◌<◌}
+use Prim.Native.Nat.{ℕ, zero, suc, ◌+◌, ◌<◌}
 use native.Mathlib.Decide.{ℕ_discrete}
 use native.Mathlib.Omega.{arith}
-use lib.Dec.{eqb, ltb}
-use lib.ListN.{get_or, set, length, replicate, length-replicate, length-set, length-append, get_or-append}
+use lib.Dec.{eqb}
+use lib.ListN.{set, length, replicate, length-replicate, length-set, length-append, get_or-append}
 use lib.Seq.{get_or-set_same, get_or-set_other, ext_get_or, get_or_at}
-use borrow.Author.Tests.{eq-eqb, ne_eqb, lt-ltb, le-ltb}
+use borrow.Author.Tests.{eq-eqb, ne_eqb, lt-ltb}
 use Rattle.sizes.specs.Sizes.{BLOCKS}
 use Rattle.loops.specs.All.{any}
 use Rattle.loops.proofs.Alls.{any_none, any_more}

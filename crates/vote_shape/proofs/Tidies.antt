@@ -1,5 +1,5 @@
 -- The three tests of an index of the recorded votes, one after the other.
-use mathlib.Core.Bool.{true, false, ◌&&◌}
+use mathlib.Core.Bool.{true, false}
 use mathlib.Core.Path.{◌≡◌}
 use Prim.Native.Nat.{ℕ}
 use Rattle.nodes.specs.Nodes.{col}

@@ -7,7 +7,7 @@ use Rattle.sizes.specs.Sizes.{VOTES, HISTORY, BLOCKS}
 use Rattle.layouts.specs.Layout.{index_place}
 use Rattle.loops.specs.All.{all, any}
 use Rattle.nodes.specs.Nodes.{col, flag}
-use Rattle.graph_lists.specs.Listed.{laid}
+use Rattle.lists.specs.Laid.{laid}
 use Rattle.vote_bits.specs.Told.{aims, told, doubled}
 use Rattle.tracker.specs.declared.Votes.{Votes}
 use Rattle.tracker.specs.Recorded.{paired}

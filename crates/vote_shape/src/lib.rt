@@ -209,7 +209,7 @@ fn written<'a>(counts: &'a [u8; VOTES], entries: &'a [u16; HISTORY], count: usiz
         return false;
     }
     let pairs = pairs(counts);
-    entry_lists::laid(entries, count, &pairs)
+    lists::laid(entries, count, &pairs)
 }
 
 // The entries of the recorded pairs.

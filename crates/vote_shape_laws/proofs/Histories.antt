@@ -14,7 +14,7 @@ use Rattle.layouts.proofs.Indices.{few_entry}
 use Rattle.loops.specs.Listing.{times, front}
 use Rattle.loops.proofs.Tests.{T_true, true_T, false_not, both, left_of, right_of, dec_T}
 use Rattle.nodes.specs.Nodes.{col, flag}
-use Rattle.graph_lists.specs.Listed.{once_each, laid}
+use Rattle.lists.specs.Laid.{once_each, laid}
 use Rattle.graph_shape.proofs.Marks.{in_front, Once, once_says, says_once, blank_padded, padded_blank}
 use Rattle.tracker.specs.declared.Votes.{Votes}
 use Rattle.tracker.specs.Recorded.{paired}

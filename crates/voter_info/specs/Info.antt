@@ -1,15 +1,14 @@
 -- A voter's place and weight. Document 01, "Porting order" 2: `get`; "Forms that must change": own answer enums.
 use Rattle.std.specs.Prelude.{List, ℕ, get_or, Option, Some, None}
 use Rattle.columns.specs.Find.{find}
-use Rattle.weights.specs.declared.NewVoterWeight.{NewVoterWeight}
-use Rattle.weights.specs.declared.NewVoterWeight.TheVariants.{Zero, Weight}
+use Rattle.weights.specs.declared.VoterWeight.{VoterWeight}
 use Rattle.weights.specs.Weights.{kept}
 use Rattle.voter_info.specs.declared.VoterInfo.{VoterInfo}
 
 -- the voter at a place with a weight, which is not zero
-abbrev pub weighed : ℕ → NewVoterWeight → Option VoterInfo
-weighed k Zero = None
-weighed k (Weight w) = Some (record { position = k; weight = w })
+abbrev pub weighed : ℕ → Option VoterWeight → Option VoterInfo
+weighed k None = None
+weighed k (Some w) = Some (record { position = k; weight = w })
 
 unfoldable pub info : ℕ → ℕ → Option VoterInfo
 info k w = weighed k (kept w)

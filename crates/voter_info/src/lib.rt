@@ -4,7 +4,7 @@
 ghost use Rattle.std.specs.Prelude.{◌≡◌};
 ghost use Rattle.voter_info.specs.Info.{info, look_up};
 
-use weights::{NewVoterWeight, VoterWeight};
+use weights::VoterWeight;
 
 // A voter's place in the set, and its weight.
 #[derive(Clone, Copy)]
@@ -45,7 +45,7 @@ pub fn look_up<'a>(ids: &'a [u32], weights: &'a [u64], count: usize, id: u32) ->
 pub fn info(position: usize, weight: u64) -> Option<VoterInfo>
     ensures { result ≡ info position weight }
 {
-    let NewVoterWeight::Weight(weight) = VoterWeight::new(weight) else {
+    let Some(weight) = VoterWeight::new(weight) else {
         return None;
     };
     Some(VoterInfo { position, weight })

@@ -15,20 +15,20 @@ use Rattle.loops.proofs.Sums.{sum_swap}
 use Rattle.weights.specs.Weights.{most}
 use Rattle.totals.specs.Totals.{total_of}
 use Rattle.voter_pairs.specs.Voters.{Pair, voters, weight_of}
-use Rattle.voter_set.specs.Voters.{refused, seated, new}
+use Rattle.voter_set.specs.Voters.{seated, new}
 use Rattle.voter_laws.specs.Order.{swap, Reordered, as_it_is, swapped}
 use Rattle.voter_pairs.proofs.Shares.{weight_in, fixed, voters_rising, voters_live, voters_weight, voters_held}
 use Rattle.voter_laws.proofs.Made.{refused_1}
 use Rattle.refusals.specs.declared.Refusal.TheVariants.{NoWeight, VoterList, WeightOverflow}
-use Rattle.std.specs.Prelude.{Result}
+use Rattle.std.specs.Prelude.{Result, Err}
 use Rattle.refusals.specs.declared.Refusal.{Refusal}
 use Rattle.voter_set.specs.declared.VoterSet.{VoterSet}
 
 -- `new` looks at the two lengths, the voters and the total alone
 judged : ℕ → ℕ → List Pair → ℕ → Result VoterSet Refusal
 judged m n ps t =
-    cond (not (eqb m n)) (refused VoterList)
-    (cond (ltb PAIRS m) (refused VoterList) (cond (ltb most t) (refused WeightOverflow) (cond (eqb t 0) (refused NoWeight) (seated ps t))))
+    cond (not (eqb m n)) (Err VoterList)
+    (cond (ltb PAIRS m) (Err VoterList) (cond (ltb most t) (Err WeightOverflow) (cond (eqb t 0) (Err NoWeight) (seated ps t))))
 
 new_judged : (ids weights : List ℕ)
     → new ids weights ≡ judged (length ids) (length weights) (voters ids weights (length ids)) (total_of weights)

@@ -4,18 +4,16 @@ use mathlib.Core.List.{List}
 use mathlib.Core.Path.{◌≡◌, refl}
 use Prim.Native.Nat.{ℕ, ◌≤◌}
 use lib.Dec.{ltb}
-use lib.ListN.{length, get_or, replicate, get_or-eq_default}
+use lib.ListN.{length, get_or, get_or-eq_default}
 use borrow.Author.Tests.{le-ltb}
 use Rattle.sizes.specs.Sizes.{VOTERS}
-use Rattle.columns.specs.Lists.{padded}
-use Rattle.voter_pairs.specs.declared.Gathered.{Gathered}
-use Rattle.voter_pairs.specs.Voters.{Pair, ids_of, weights_of, gathered}
+use Rattle.voter_pairs.specs.Voters.{Pair, gathered}
 use Rattle.voter_info.proofs.Infos.{info_zero}
 use Rattle.voter_set.specs.declared.VoterSet.{VoterSet}
-use Rattle.voter_set.specs.declared.Answer.TheVariants.{Made}
-use Rattle.voter_set.specs.Voters.{laid, refused, seat, seated}
+use Rattle.voter_set.specs.Voters.{seat, seated}
 use Rattle.voter_set.specs.Lookup.{nth}
-use Rattle.std.specs.Prelude.{None}
+use Rattle.voter_info.specs.declared.VoterInfo.{VoterInfo}
+use Rattle.std.specs.Prelude.{Option, None}
 
 pub seat_gathered : (ps : List Pair) (t : ℕ) → seat (gathered ps) t ≡ seated ps t
 seat_gathered ps t = go (ltb VOTERS (length ps)) refl
@@ -32,6 +30,6 @@ pub nth_short : (s : VoterSet) (n : ℕ) → length s.weights ≤ n → nth s n 
 unfolding nth
 nth_short s n h = rw (info_zero n (get_or s.weights n 0) (get_or-eq_default s.weights 0 h)) (go (ltb n s.count))
   where
-    go : (b : Bool) → cond b None None ≡ None
+    go : (b : Bool) → ◌≡◌ {A = Option (ℕ × VoterInfo)} (cond b None None) None
     go true = refl
     go false = refl

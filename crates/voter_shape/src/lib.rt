@@ -2,12 +2,9 @@
 #![tactic(auto)]
 
 ghost use Rattle.std.specs.Prelude.{◌≡◌, ◌≤◌, length};
-ghost use Rattle.sizes.specs.Sizes.{VOTERS};
-ghost use Rattle.columns.specs.Blank.{blank};
 ghost use Rattle.voter_shape.specs.Sound.{rising, non_zero, placed, sound};
 
 use sizes::VOTERS;
-use totals::Total;
 
 // Whether columns of ids and weights, with a count, a threshold and a total, keep the shape rules.
 pub fn is_sound<'a>(
@@ -22,7 +19,7 @@ pub fn is_sound<'a>(
     if !placed(ids, weights, count) {
         return false;
     }
-    let Total::Fits(sum) = totals::sum(weights) else {
+    let Some(sum) = totals::sum(weights) else {
         return false;
     };
     if total != sum {
@@ -49,10 +46,7 @@ fn placed<'a>(ids: &'a [u32], weights: &'a [u64], count: usize) -> bool
     if !non_zero(weights, count) {
         return false;
     }
-    if !blank_ids(ids, count) {
-        return false;
-    }
-    blank_weights(weights, count)
+    lists::blank(ids, count) && lists::blank(weights, count)
 }
 
 fn rising(ids: &[u32], count: usize) -> bool
@@ -73,28 +67,6 @@ fn non_zero(weights: &[u64], count: usize) -> bool
     let mut ok = true;
     for k in 0..count {
         ok = (weights[k] != 0) & ok;
-    }
-    ok
-}
-
-fn blank_ids(ids: &[u32], count: usize) -> bool
-    requires { (count ≤ VOTERS) × (length ids.now ≡ VOTERS) }
-    ensures { result ≡ blank ids.now count VOTERS }
-{
-    let mut ok = true;
-    for k in count..VOTERS {
-        ok = (ids[k] == 0) & ok;
-    }
-    ok
-}
-
-fn blank_weights(weights: &[u64], count: usize) -> bool
-    requires { (count ≤ VOTERS) × (length weights.now ≡ VOTERS) }
-    ensures { result ≡ blank weights.now count VOTERS }
-{
-    let mut ok = true;
-    for k in count..VOTERS {
-        ok = (weights[k] == 0) & ok;
     }
     ok
 }

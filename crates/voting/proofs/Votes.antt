@@ -63,7 +63,7 @@ module _ (f : Frame) (h : Held) where
   cast phase signer p = import f phase signer p h
 
   -- what a vote leaves
-  answered_tried : (i : Held) (a : Result ImportResult Refusal) → ((n : ℕ) → a ≡ Err n → i ≡ h)
+  answered_tried : (i : Held) (a : Result ImportResult Refusal) → ((n : Refusal) → a ≡ Err n → i ≡ h)
       → record { state = both f i; turn = turn_of a } ≡ taken_or_not (both f h) (answered (both f i) a)
   answered_tried i (Err n) same = ap (λ j. record { state = both f j; turn = Break (end.Refused n) }) (same n refl)
   answered_tried i (Ok Outside) same = refl
@@ -72,7 +72,7 @@ module _ (f : Frame) (h : Held) where
   answered_tried i (Ok (Equivocated e)) same = refl
   answered_tried i (Ok Ignored) same = refl
 
-  unmoved : (phase : Phase) (signer : ℕ) (p : Pair) (n : ℕ) → (cast phase signer p).answer ≡ Err n → (cast phase signer p).held ≡ h
+  unmoved : (phase : Phase) (signer : ℕ) (p : Pair) (n : Refusal) → (cast phase signer p).answer ≡ Err n → (cast phase signer p).held ≡ h
   unmoved phase signer p n e = import_refused f phase signer p h (subst Untaken (sym e) tt)
 
   counted_tried : (phase : Phase) (fs : List ℕ)

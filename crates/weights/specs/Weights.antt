@@ -1,10 +1,9 @@
 -- Document 01, "Weights and bits": `VoteWeight` adds and subtracts with saturation. "Porting order", 1: comparisons; no
 -- zero voter weight.
-use Rattle.std.specs.Prelude.{cond, ℕ, ◌+◌, ◌-◌, ◌^◌, min, eqb, ltb}
-use Rattle.weights.specs.declared.NewVoterWeight.{NewVoterWeight}
-use Rattle.weights.specs.declared.NewVoterWeight.TheVariants.{Zero, Weight}
-use Rattle.weights.specs.declared.Ordering.{Ordering}
-use Rattle.weights.specs.declared.Ordering.TheVariants.{Less, Equal, Greater}
+use Rattle.std.specs.Prelude.{cond, ℕ, ◌+◌, ◌-◌, ◌^◌, min, eqb, ltb, Option, None, Some}
+use Rattle.std.specs.declared.cmp.Ordering.{Ordering}
+use Rattle.std.specs.declared.cmp.Ordering.TheVariants.{Less, Equal, Greater}
+use Rattle.weights.specs.declared.VoterWeight.{VoterWeight}
 
 -- the largest weight
 abbrev pub most : ℕ
@@ -20,5 +19,5 @@ minus a b = a - b
 abbrev pub compared : ℕ → ℕ → Ordering
 compared a b = cond (ltb a b) Less (cond (eqb a b) Equal Greater)
 
-abbrev pub kept : ℕ → NewVoterWeight
-kept a = cond (eqb a 0) Zero (Weight (record { 0 = a }))
+abbrev pub kept : ℕ → Option VoterWeight
+kept a = cond (eqb a 0) None (Some (record { 0 = a }))

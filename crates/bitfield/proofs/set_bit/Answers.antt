@@ -8,8 +8,8 @@ use Rattle.bitfield.proofs.Pairs.{put_first, put_second}
 use borrow.Author.Rules.{rules}
 use Rattle.bitfield.proofs.set_bit.Goals as goal
 
-pub returns-then-position-lt64 : goal.returns-then-position-lt64
-returns-then-position-lt64 c =
+pub returns-then-position-lt-WORD : goal.returns-then-position-lt-WORD
+returns-then-position-lt-WORD c =
     let two : length c.args.bits ≡ 2 = search rules in
     rw (c.shift_of.ensures, shl_one (63 - c.args.position % 64) (omega arith)) (sym (put_first _ two _ (search rules)))
 

@@ -3,7 +3,7 @@ use Prim.Native.Nat.{◌-◌}
 use native.Mathlib.Nat.{le_antisymm}
 use native.Mathlib.Omega.{arith}
 use Rattle.nodes.specs.Nodes.{col}
-use Rattle.graph_lists.proofs.Strikes.{struck_none, struck_more}
+use Rattle.lists.proofs.Strikes.{struck_none, struck_more}
 use borrow.Author.Rules.{rules}
 use Rattle.graph_lists.proofs.childless.Goals as goal
 

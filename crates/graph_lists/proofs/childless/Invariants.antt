@@ -2,7 +2,7 @@ use mathlib.Core.Path.{◌≡◌}
 use Prim.Native.Nat.{◌≤◌, ◌-◌}
 use Rattle.loops.specs.Listing.{front}
 use Rattle.nodes.specs.Nodes.{col}
-use Rattle.graph_lists.specs.Listed.{struck}
+use Rattle.lists.specs.Laid.{struck}
 use Rattle.graph_lists.proofs.childless.Given as goal
 
 abbrev pub invariant-loop-k : goal.invariant-loop-k

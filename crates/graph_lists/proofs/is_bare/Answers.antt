@@ -1,8 +1,10 @@
-use borrow.Author.Tests.{eq-eqb, ne_eqb}
+use mathlib.Core.Path.{◌≡◌, ◌∙◌}
+use lib.ListN.{length}
+use borrow.Author.Rules.{rules}
+use Rattle.graph_lists.proofs.Rows.{zero_bits_is}
 use Rattle.graph_lists.proofs.is_bare.Goals as goal
 
-pub returns-then-bits-ne0 : goal.returns-then-bits-ne0
-returns-then-bits-ne0 c = rw (c.if-node.false, ne_eqb _ _ c.if-bits-ne0.true)
-
-pub returns : goal.returns
-returns c = rw (c.if-node.false, eq-eqb _ _ c.if-bits-ne0.false)
+pub returns-else-node : goal.returns-else-node
+returns-else-node c =
+    let two : length c.args.bits ≡ 2 = search rules in
+    rw c.if-node.false (c.is_blank.ensures ∙ zero_bits_is c.args.bits two)

@@ -1,4 +1,5 @@
 use mathlib.Core.Path.{sym, ◌∙◌}
+use borrow.Author.Rules.{rules}
 use Rattle.graph_shape.specs.Graphed.{graphed}
 use Rattle.loops.proofs.Tests.{T_true}
 use Rattle.graph_shape.proofs.Counts.{counted_says}
@@ -17,7 +18,7 @@ unfolding graphed
 returns-then-not-tied c = rw (sym c.counted.ensures ∙ c.if-not-counted.false, sym c.inside.ensures ∙ c.if-not-inside.false, ← c.others-rest.ensures, sym c.tied.ensures ∙ c.if-not-tied.true)
 
 pub laid-requires : goal.laid-requires
-laid-requires c = (counted_says _ _ _ _ _ (T_true (sym c.counted.ensures ∙ c.if-not-counted.false))).listed_fits
+laid-requires c = (search rules, (search rules, (counted_says _ _ _ _ _ (T_true (sym c.counted.ensures ∙ c.if-not-counted.false))).listed_fits))
 
 pub returns-then-not-laid : goal.returns-then-not-laid
 unfolding graphed
@@ -27,7 +28,7 @@ pub childless-ends-requires : goal.childless-ends-requires
 childless-ends-requires c = (counted_says _ _ _ _ _ (T_true (sym c.counted.ensures ∙ c.if-not-counted.false))).listed_fits
 
 pub laid-requires-2 : goal.laid-requires-2
-laid-requires-2 c = (counted_says _ _ _ _ _ (T_true (sym c.counted.ensures ∙ c.if-not-counted.false))).tips_fit
+laid-requires-2 c = (search rules, (search rules, (counted_says _ _ _ _ _ (T_true (sym c.counted.ensures ∙ c.if-not-counted.false))).tips_fit))
 
 pub returns-then-not-laid-2 : goal.returns-then-not-laid-2
 unfolding graphed

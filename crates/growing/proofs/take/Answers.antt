@@ -2,6 +2,7 @@ use mathlib.Core.Path.{ap, ◌∙◌}
 use Rattle.marks.specs.Marks.{size}
 use Rattle.runs.specs.Tried.{tried}
 use Rattle.growing.specs.Growing.{grown}
+use Rattle.growing.proofs.Others.{grown_others}
 use Rattle.growing.proofs.take.Goals as goal
 
 pub grow-requires : goal.grow-requires
@@ -23,33 +24,9 @@ returns-in-Op c =
     }
 
 pub returns-in-Vt : goal.returns-in-Vt
-unfolding tried grown
+unfolding tried
 returns-in-Vt c =
     record {
-      fact = rw (c.over-in-Vt.ensures, c.in-Vt.is);
+      fact = rw (c.over-in-Vt.ensures, grown_others _ _ _ c.in-Vt.is);
       indexed = rw c.over-in-Vt.ensures c.requires.0;
-    }
-
-pub returns-in-Rt : goal.returns-in-Rt
-unfolding tried grown
-returns-in-Rt c =
-    record {
-      fact = rw (c.over-in-Rt.ensures, c.in-Rt.is);
-      indexed = rw c.over-in-Rt.ensures c.requires.0;
-    }
-
-pub returns-in-Pv : goal.returns-in-Pv
-unfolding tried grown
-returns-in-Pv c =
-    record {
-      fact = rw (c.over-in-Pv.ensures, c.in-Pv.is);
-      indexed = rw c.over-in-Pv.ensures c.requires.0;
-    }
-
-pub returns-in-Pc : goal.returns-in-Pc
-unfolding tried grown
-returns-in-Pc c =
-    record {
-      fact = rw (c.over-in-Pc.ensures, c.in-Pc.is);
-      indexed = rw c.over-in-Pc.ensures c.requires.0;
     }

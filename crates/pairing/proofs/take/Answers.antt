@@ -4,6 +4,7 @@ use borrow.Author.Tests.{le-leb, lt-leb}
 use Rattle.marks.specs.Marks.{size}
 use Rattle.runs.specs.Tried.{tried}
 use Rattle.pairing.specs.Pairing.{paired}
+use Rattle.pairing.proofs.Others.{paired_others}
 use Rattle.pairing.proofs.take.Goals as goal
 
 pub returns-then-pairs-ge-PAIRS : goal.returns-then-pairs-ge-PAIRS
@@ -25,17 +26,5 @@ unfolding tried paired
 returns-in-Rt c = record { fact = rw (c.over-in-Rt.ensures, c.in-Rt.is); pairs_bound = rw c.over-in-Rt.ensures c.requires.0 }
 
 pub returns-in-Bk : goal.returns-in-Bk
-unfolding tried paired
-returns-in-Bk c = record { fact = rw (c.over-in-Bk.ensures, c.in-Bk.is); pairs_bound = rw c.over-in-Bk.ensures c.requires.0 }
-
-pub returns-in-Op : goal.returns-in-Op
-unfolding tried paired
-returns-in-Op c = record { fact = rw (c.over-in-Op.ensures, c.in-Op.is); pairs_bound = rw c.over-in-Op.ensures c.requires.0 }
-
-pub returns-in-Pv : goal.returns-in-Pv
-unfolding tried paired
-returns-in-Pv c = record { fact = rw (c.over-in-Pv.ensures, c.in-Pv.is); pairs_bound = rw c.over-in-Pv.ensures c.requires.0 }
-
-pub returns-in-Pc : goal.returns-in-Pc
-unfolding tried paired
-returns-in-Pc c = record { fact = rw (c.over-in-Pc.ensures, c.in-Pc.is); pairs_bound = rw c.over-in-Pc.ensures c.requires.0 }
+unfolding tried
+returns-in-Bk c = record { fact = rw (c.over-in-Bk.ensures, paired_others _ _ _ c.in-Bk.is); pairs_bound = rw c.over-in-Bk.ensures c.requires.0 }

@@ -1,5 +1,5 @@
 use mathlib.Core.Path.{refl, sym, ap, subst, ◌∙◌}
-use Prim.Native.Nat.{◌<◌, ◌-◌, pred}
+use Prim.Native.Nat.{◌<◌, pred}
 use native.Mathlib.Omega.{arith}
 use Rattle.sizes.specs.Sizes.{BLOCKS}
 use Rattle.loops.proofs.Listings.{length_front}
@@ -12,25 +12,19 @@ use borrow.Author.Rules.{rules}
 use Rattle.vote_merge.proofs.merge_point.Goals as goal
 
 pub loop-count-init : goal.loop-count-init
-loop-count-init c = (search rules, c.requires.1, c.requires.2, BLOCKS, search rules, refl)
-
-pub meets-child-requires : goal.meets-child-requires
-meets-child-requires c = (c.requires.0, c.loop-count.invariant.1)
+loop-count-init g c = (search rules, c.requires.1, c.requires.2, BLOCKS, search rules, refl)
 
 pub returns-then-child-eq0 : goal.returns-then-child-eq0
-returns-then-child-eq0 c =
+returns-then-child-eq0 g c =
     sym (c.loop-count.invariant.5 ∙ merge_ends _ _ _ _ _ _ (omega (arith, c.loop-count.invariant.0, c.loop-count.invariant.4)) (sym c.meets-child.ensures ∙ c.if-child-eq0.true))
 
-pub strictly_below-fewer-requires : goal.strictly_below-fewer-requires
-strictly_below-fewer-requires c = (c.requires.0, c.loop-count.invariant.1)
-
 pub loop-count-smaller : goal.loop-count-smaller
-loop-count-smaller c =
+loop-count-smaller g c =
     let past : c.loop-count.best < c.meets-child.result = meets_past c.args.parents.now c.requires.0 _ _ _ _ c.loop-count.invariant.2 _ c.meets-child.ensures c.if-child-eq0.false in
     omega (arith, c.loop-count.invariant.0)
 
 pub loop-count-preserved : goal.loop-count-preserved
-loop-count-preserved c =
+loop-count-preserved g c =
     let here = placed_front _ _ c.strictly_below-fewer.ensures in
     let past : c.loop-count.best < c.meets-child.result = meets_past c.args.parents.now c.requires.0 _ _ _ _ c.loop-count.invariant.2 _ c.meets-child.ensures c.if-child-eq0.false in (
       search rules,
@@ -44,6 +38,6 @@ loop-count-preserved c =
     )
 
 pub returns : goal.returns
-returns c =
+returns g c =
     sym (c.loop-count.invariant.5 ∙ merge_ends _ _ _ _ _ _ (omega (arith, c.loop-count.invariant.0, c.loop-count.invariant.4))
     (meets_few _ _ _ _ _ (omega (arith, length_front c.loop-count.count c.loop-count.places, c.loop-count-test.false))))

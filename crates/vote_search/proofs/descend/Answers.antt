@@ -1,5 +1,5 @@
 use mathlib.Core.Path.{sym, ap, subst, ◌∙◌}
-use Prim.Native.Nat.{◌<◌, ◌-◌, pred}
+use Prim.Native.Nat.{◌<◌, pred}
 use native.Mathlib.Omega.{arith}
 use Rattle.sizes.specs.Sizes.{BLOCKS}
 use Rattle.graph.specs.Ghost.{settle}
@@ -12,11 +12,8 @@ use Rattle.vote_search.proofs.Descents.{listed_few, followed_few, settle_ends, s
 use borrow.Author.Rules.{rules}
 use Rattle.vote_search.proofs.descend.Goals as goal
 
-pub following-follow-requires : goal.following-follow-requires
-following-follow-requires c = let s = c.requires.3.sound in (s.parents_fall, s.listed_fits)
-
 pub loop-places-init : goal.loop-places-init
-loop-places-init c =
+loop-places-init g c =
     let s = c.requires.3.sound in
     let here = placed_front _ _ c.following-follow.ensures ∙ followed_is _ _ _ _ _ s _ in (
       search rules,
@@ -27,28 +24,19 @@ loop-places-init c =
       ap (settle _ _ _ _ _) (following_unheaded _ _ _ _ _ s _ ∙ sym here),
     )
 
-pub first_passing-child-requires : goal.first_passing-child-requires
-first_passing-child-requires c = c.loop-places.invariant.1
-
-pub merge_point-requires : goal.merge_point-requires
-merge_point-requires c = (c.requires.3.sound.parents_fall, c.loop-places.invariant.1, c.loop-places.invariant.2)
-
 pub returns-then-child-eq0 : goal.returns-then-child-eq0
-returns-then-child-eq0 c =
+returns-then-child-eq0 g c =
     c.merge_point.ensures
     ∙ sym (c.loop-places.invariant.5 ∙ settle_ends _ _ _ _ _ _ (omega (arith, c.loop-places.invariant.0, c.loop-places.invariant.4)) _ c.first_passing-child.ensures c.if-child-eq0.true)
 
-pub children-next-requires : goal.children-next-requires
-children-next-requires c = c.requires.3.sound.listed_fits
-
 pub loop-places-smaller : goal.loop-places-smaller
-loop-places-smaller c =
+loop-places-smaller g c =
     let past : c.loop-places.last < c.first_passing-child.result
     = lower_past c.args.parents.now c.requires.3.sound.parents_fall _ _ _ c.loop-places.invariant.2 (first_listed _ _ _ c.first_passing-child.ensures c.if-child-eq0.false) in
     omega (arith, c.loop-places.invariant.0)
 
 pub loop-places-preserved : goal.loop-places-preserved
-loop-places-preserved c =
+loop-places-preserved g c =
     let s = c.requires.3.sound in
     let here = placed_front _ _ c.children-next.ensures ∙ listed_is _ _ _ _ _ s _ in
     let past : c.loop-places.last < c.first_passing-child.result

@@ -3,17 +3,17 @@ use Prim.Native.Nat.{ℕ, ◌<◌, ◌≤◌, ◌-◌, ◌+◌}
 use Rattle.sizes.specs.Sizes.{BLOCKS}
 use Rattle.loops.specs.Listing.{front}
 use Rattle.graph.specs.Ghost.{settle, following}
-use Rattle.nodes.specs.Nodes.{col, passes}
+use Rattle.nodes.specs.Nodes.{col}
 use Rattle.vote_search.specs.Searches.{unheaded}
 use Rattle.vote_merge.specs.Merges.{Lower}
 use Rattle.vote_search.proofs.descend.Given as goal
 
 abbrev pub invariant-loop-places : goal.invariant-loop-places
-invariant-loop-places l =
+invariant-loop-places g l =
     (l.last < BLOCKS) × (l.count ≤ BLOCKS) × Lower l.parents l.last (front l.count l.places) × (f : ℕ) × (BLOCKS ≤ l.last + f)
-    × (settle (col l.parents) (unheaded l.used l.rows l.order l.listed) (passes l.weights l.question) BLOCKS l.block (following (col l.parents) (unheaded l.used l.rows l.order l.listed) l.block)
-    ≡ settle (col l.parents) (unheaded l.used l.rows l.order l.listed) (passes l.weights l.question) f l.last (front l.count l.places))
+    × (settle (col l.parents) (unheaded l.used l.rows l.order l.listed) (g.Q.Asks.asks l.question) BLOCKS l.block (following (col l.parents) (unheaded l.used l.rows l.order l.listed) l.block)
+    ≡ settle (col l.parents) (unheaded l.used l.rows l.order l.listed) (g.Q.Asks.asks l.question) f l.last (front l.count l.places))
 
 abbrev pub decreases-loop-places : goal.decreases-loop-places
-decreases-loop-places l =
+decreases-loop-places g l =
     BLOCKS - l.last

@@ -2,15 +2,15 @@ use mathlib.Core.Path.{◌≡◌}
 use lib.Dec.{T}
 use Rattle.grandpa.specs.Tree.{below}
 use Rattle.graph.specs.Ghost.{find_ancestor}
-use Rattle.nodes.specs.Nodes.{col, passes}
+use Rattle.nodes.specs.Nodes.{col}
 use Rattle.vote_search.specs.Searches.{unlisted}
 use Rattle.vote_search.proofs.find_ancestor.Given as goal
 
-abbrev pub invariant-loop-question : goal.invariant-loop-question
-invariant-loop-question l =
+abbrev pub invariant-loop-tally : goal.invariant-loop-tally
+invariant-loop-tally g l =
     T (below (col l.parents) l.base l.at)
-    × (find_ancestor (col l.parents) (unlisted l.used l.rows l.heads l.tips) l.base (passes l.weights l.question) l.block
-    ≡ find_ancestor (col l.parents) (unlisted l.used l.rows l.heads l.tips) l.base (passes l.weights l.question) l.at)
+    × (find_ancestor (col l.parents) (unlisted l.used l.rows l.heads l.tips) l.base (g.Q.Asks.asks l.question) l.block
+    ≡ find_ancestor (col l.parents) (unlisted l.used l.rows l.heads l.tips) l.base (g.Q.Asks.asks l.question) l.at)
 
-abbrev pub decreases-loop-question : goal.decreases-loop-question
-decreases-loop-question l = l.at
+abbrev pub decreases-loop-tally : goal.decreases-loop-tally
+decreases-loop-tally g l = l.at

@@ -2,16 +2,13 @@ use mathlib.Core.Path.{sym, ap, ◌∙◌}
 use Rattle.vote_search.proofs.Descents.{ghost_none, ghost_some}
 use Rattle.vote_search.proofs.find_ghost.Goals as goal
 
-pub cumulative_vote-start-requires : goal.cumulative_vote-start-requires
-cumulative_vote-start-requires c = let s = c.requires.1.sound in (s.parents_fall, s.above_falls, s.tips_fit)
-
 pub returns-then-not-passes : goal.returns-then-not-passes
-returns-then-not-passes c =
+returns-then-not-passes g c =
     sym ((ghost_none _ _ _ _ _ c.requires.1.sound _ _ c.requires.1.in_base _ c.cumulative_vote-start.ensures (sym c.passes.ensures ∙ c.if-not-passes.true)))
 
 pub descend-requires : goal.descend-requires
-descend-requires c = (_, _, _, c.requires.1)
+descend-requires g c = (_, _, _, c.requires.1)
 
 pub returns : goal.returns
-returns c =
+returns g c =
     sym ((ghost_some _ _ _ _ _ c.requires.1.sound _ _ c.requires.1.in_base _ c.cumulative_vote-start.ensures (sym c.passes.ensures ∙ c.if-not-passes.false) _ c.descend.ensures))

@@ -1,4 +1,3 @@
-use mathlib.Core.Bool.{false}
 use mathlib.Core.Path.{sym, ◌∙◌}
 use Rattle.vote_shape.specs.Voted.{noded}
 use Rattle.vote_shape.proofs.noded.Goals as goal

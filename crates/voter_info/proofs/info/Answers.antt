@@ -8,4 +8,4 @@ returns-in_default c = rw (sym c.new.ensures ∙ c.in_default.is)
 
 pub returns : goal.returns
 unfolding info
-returns c = rw (sym c.new.ensures ∙ c.in-Weight.is)
+returns c = rw (sym c.new.ensures ∙ c.in-Some.is)

@@ -16,11 +16,11 @@ returns-in_default c = rw (sym c.placed.ensures ∙ c.if-not-placed.false, over_
 pub returns-then-total-sum : goal.returns-then-total-sum
 unfolding sound
 returns-then-total-sum c =
-    let s = summed_fits (total_of c.args.weights.now) _ (sym c.sum.ensures ∙ c.in-Fits.is) in
+    let s = summed_fits (total_of c.args.weights.now) _ (sym c.sum.ensures ∙ c.in-Some.is) in
     rw (sym c.placed.ensures ∙ c.if-not-placed.false, ne_eqb c.args.total (total_of c.args.weights.now) (λ e. c.if-total-sum.true (e ∙ sym s.1)))
 
 pub returns : goal.returns
 unfolding sound
 returns c =
-    let s = summed_fits (total_of c.args.weights.now) _ (sym c.sum.ensures ∙ c.in-Fits.is) in
+    let s = summed_fits (total_of c.args.weights.now) _ (sym c.sum.ensures ∙ c.in-Some.is) in
     rw (sym c.placed.ensures ∙ c.if-not-placed.false, eq-eqb c.args.total (total_of c.args.weights.now) (c.if-total-sum.false ∙ s.1), c.threshold.ensures)

@@ -24,10 +24,15 @@ pub returns-then-not-non_zero : goal.returns-then-not-non_zero
 unfolding placed
 returns-then-not-non_zero c = rw (eq-eqb _ VOTERS c.if-ids-ne-VOTERS.false, eq-eqb _ VOTERS c.if-weights-ne-VOTERS.false, le-leb _ VOTERS c.if-count-gt-VOTERS.false, sym c.rising.ensures ∙ c.if-not-rising.false, sym c.non_zero.ensures ∙ c.if-not-non_zero.true)
 
-pub returns-then-not-blank_ids : goal.returns-then-not-blank_ids
+pub returns-else-blank : goal.returns-else-blank
 unfolding placed
-returns-then-not-blank_ids c = rw (eq-eqb _ VOTERS c.if-ids-ne-VOTERS.false, eq-eqb _ VOTERS c.if-weights-ne-VOTERS.false, le-leb _ VOTERS c.if-count-gt-VOTERS.false, sym c.rising.ensures ∙ c.if-not-rising.false, sym c.non_zero.ensures ∙ c.if-not-non_zero.false, sym c.blank_ids.ensures ∙ c.if-not-blank_ids.true)
+returns-else-blank c =
+    let none = rw c.if-ids-ne-VOTERS.false at c.blank.ensures in
+    rw (eq-eqb _ VOTERS c.if-ids-ne-VOTERS.false, eq-eqb _ VOTERS c.if-weights-ne-VOTERS.false, le-leb _ VOTERS c.if-count-gt-VOTERS.false, sym c.rising.ensures ∙ c.if-not-rising.false, sym c.non_zero.ensures ∙ c.if-not-non_zero.false, sym none ∙ c.if-blank.false) c.if-blank.false
 
-pub returns : goal.returns
+pub returns-then-blank : goal.returns-then-blank
 unfolding placed
-returns c = rw (eq-eqb _ VOTERS c.if-ids-ne-VOTERS.false, eq-eqb _ VOTERS c.if-weights-ne-VOTERS.false, le-leb _ VOTERS c.if-count-gt-VOTERS.false, sym c.rising.ensures ∙ c.if-not-rising.false, sym c.non_zero.ensures ∙ c.if-not-non_zero.false, sym c.blank_ids.ensures ∙ c.if-not-blank_ids.false, c.blank_weights.ensures)
+returns-then-blank c =
+    let ids = rw c.if-ids-ne-VOTERS.false at c.blank.ensures in
+    let weights = rw c.if-weights-ne-VOTERS.false at c.blank-then-blank.ensures in
+    rw (eq-eqb _ VOTERS c.if-ids-ne-VOTERS.false, eq-eqb _ VOTERS c.if-weights-ne-VOTERS.false, le-leb _ VOTERS c.if-count-gt-VOTERS.false, sym c.rising.ensures ∙ c.if-not-rising.false, sym c.non_zero.ensures ∙ c.if-not-non_zero.false, sym ids ∙ c.if-blank.true) weights

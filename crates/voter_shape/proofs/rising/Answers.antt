@@ -1,5 +1,4 @@
 use mathlib.Core.Path.{◌∙◌}
-use Prim.Native.Nat.{◌-◌}
 use native.Mathlib.Omega.{arith}
 use Rattle.voter_shape.proofs.Turns.{rising_one, rising_next, rising_end}
 use Rattle.voter_shape.proofs.rising.Goals as goal

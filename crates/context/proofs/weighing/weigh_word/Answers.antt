@@ -30,7 +30,7 @@ loop-left-smaller c = (low c.loop-left.left (omega arith) c.loop-left.invariant.
 pub loop-left-preserved : goal.loop-left-preserved
 loop-left-preserved c =
     let l = low c.loop-left.left (omega arith) c.loop-left.invariant.0 in
-    (omega (arith, l.less), omega (arith, c.add-more.ensures), rw c.add-more.ensures (word_turn _ _ _ _ (omega arith) c.loop-left.invariant.0 c.loop-left.invariant.2))
+    (omega (arith, l.less), omega (arith, c.saturating_add-sum.ensures), rw c.saturating_add-sum.ensures (word_turn _ _ _ _ (omega arith) c.loop-left.invariant.0 c.loop-left.invariant.2))
 
 pub returns : goal.returns
 returns c =

@@ -5,20 +5,20 @@ use Rattle.vote_graph.proofs.VoteGraph.find_ancestor.Goals as goal
 
 pub returns-then-not-is_graph : goal.returns-then-not-is_graph
 unfolding find_ancestor
-returns-then-not-is_graph c = rw (sym c.is_graph.ensures ∙ c.if-not-is_graph.true)
+returns-then-not-is_graph g c = rw (sym c.is_graph.ensures ∙ c.if-not-is_graph.true)
 
 pub of-requires : goal.of-requires
-of-requires c =
+of-requires g c =
     let h = sym c.is_graph.ensures ∙ c.if-not-is_graph.false in
     (gate_falls _ _ h, gate_few _ _ h)
 
 pub ancestor-found-requires : goal.ancestor-found-requires
-ancestor-found-requires c = target_stands _ _ (sym c.is_graph.ensures ∙ c.if-not-is_graph.false) _ _ (sym c.of.ensures ∙ c.in-Some.is)
+ancestor-found-requires g c = target_stands _ _ (sym c.is_graph.ensures ∙ c.if-not-is_graph.false) _ _ (sym c.of.ensures ∙ c.in-Some.is)
 
 pub returns-in-Err : goal.returns-in-Err
 unfolding find_ancestor
-returns-in-Err c = rw (sym c.is_graph.ensures ∙ c.if-not-is_graph.false, sym c.of.ensures ∙ c.in-Err.is)
+returns-in-Err g c = rw (sym c.is_graph.ensures ∙ c.if-not-is_graph.false, sym c.of.ensures ∙ c.in-Err.is)
 
 pub returns-in-Some : goal.returns-in-Some
 unfolding find_ancestor
-returns-in-Some c = rw (sym c.is_graph.ensures ∙ c.if-not-is_graph.false, sym c.of.ensures ∙ c.in-Some.is, c.Ok.ensures, c.ancestor-found.ensures)
+returns-in-Some g c = rw (sym c.is_graph.ensures ∙ c.if-not-is_graph.false, sym c.of.ensures ∙ c.in-Some.is, c.Ok.ensures, c.ancestor-found.ensures)

@@ -2,7 +2,7 @@ use Rattle.vote_graph.proofs.Standings.{standing_stands, ghost_is}
 use Rattle.vote_graph.proofs.VoteGraph.heaviest.Goals as goal
 
 pub find_ghost-requires : goal.find_ghost-requires
-find_ghost-requires c = (_, standing_stands _ _ _ c.requires _ c.words_of-words.ensures.0)
+find_ghost-requires g c = (_, standing_stands _ _ _ c.requires _ c.words_of-words.ensures.0)
 
 pub returns : goal.returns
-returns c = ghost_is _ _ _ _ c.words_of-words.ensures.0 _ _ _ c.find_ghost.ensures
+returns g c = ghost_is _ _ _ _ c.words_of-words.ensures.0 _ _ c.find_ghost.ensures
