@@ -1,6 +1,5 @@
 use mathlib.Core.Path.{sym, ap, ◌∙◌}
-use native.Mathlib.Nat.{le_refl}
-use Prim.Native.Nat.{ℕ, ◌-◌}
+use Prim.Native.Nat.{ℕ}
 use lib.ListN.{length, length-replicate}
 use Rattle.marks.proofs.Readings.{whole_means}
 use Rattle.runs.proofs.Turns.{whole_fields}

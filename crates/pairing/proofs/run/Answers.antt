@@ -1,6 +1,4 @@
 use mathlib.Core.Path.{sym, ap, ◌∙◌}
-use native.Mathlib.Nat.{le_refl}
-use Prim.Native.Nat.{◌-◌}
 use lib.ListN.{length}
 use Rattle.marks.proofs.Readings.{whole_means}
 use Rattle.runs.proofs.Turns.{whole_fields}
