@@ -1,6 +1,6 @@
 -- Bytes cut out at a place, and the numbers that the library reads from them: they are ours.
 use mathlib.Core.List.{List}
-use mathlib.Core.Path.{◌≡◌, subst, sym, ap, ◌∙◌}
+use mathlib.Core.Path.{◌≡◌, ap, ◌∙◌}
 use Prim.Native.Nat.{ℕ, ◌+◌, ◌-◌, ◌<◌}
 use native.Mathlib.Omega.{arith}
 use lib.ListN.{take, drop}

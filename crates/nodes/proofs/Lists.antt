@@ -76,7 +76,7 @@ module _ (p : ℕ → Bool) (xs : List ℕ) where
   laid_end n m places k l e = rw (l.places_are, l.count_is, e)
 
 -- a column read as a list, and back
-front_take : (n : ℕ) (l : List ℕ) → n ≤ length l → front n l ≡ take n l
+pub front_take : (n : ℕ) (l : List ℕ) → n ≤ length l → front n l ≡ take n l
 unfolding front
 front_take zero l h = refl
 front_take (suc n) l h = rw (front_take n l (omega arith)) (sym (take-suc l n 0 (omega arith)))

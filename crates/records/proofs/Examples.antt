@@ -1,9 +1,7 @@
 -- Document 01, case J: voter 1's precommit for block 12 of number 2, signature 0. And a prevote whose fields show the order.
-use mathlib.Core.List.{List, [], ◌∷◌}
+use mathlib.Core.List.{[], ◌∷◌}
 use mathlib.Core.Path.{◌≡◌, refl}
-use Prim.Native.Nat.{ℕ}
 use Rattle.context.specs.declared.Phase.TheVariants.{Prevote, Precommit}
-use Rattle.tracker.specs.declared.Pair.{Pair}
 use Rattle.records.specs.Bytes.{vote_bytes}
 
 pub case_j : vote_bytes Precommit 1 (record { target = 12; number = 2; signature = 0 })

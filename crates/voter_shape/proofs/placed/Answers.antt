@@ -27,12 +27,21 @@ returns-then-not-non_zero c = rw (eq-eqb _ VOTERS c.if-ids-ne-VOTERS.false, eq-e
 pub returns-else-blank : goal.returns-else-blank
 unfolding placed
 returns-else-blank c =
-    let none = rw c.if-ids-ne-VOTERS.false at c.blank.ensures in
-    rw (eq-eqb _ VOTERS c.if-ids-ne-VOTERS.false, eq-eqb _ VOTERS c.if-weights-ne-VOTERS.false, le-leb _ VOTERS c.if-count-gt-VOTERS.false, sym c.rising.ensures ∙ c.if-not-rising.false, sym c.non_zero.ensures ∙ c.if-not-non_zero.false, sym none ∙ c.if-blank.false) c.if-blank.false
+    let ids = eq-eqb _ VOTERS c.if-ids-ne-VOTERS.false in
+    let weights = eq-eqb _ VOTERS c.if-weights-ne-VOTERS.false in
+    let few = le-leb _ VOTERS c.if-count-gt-VOTERS.false in
+    let rise = sym c.rising.ensures ∙ c.if-not-rising.false in
+    let some = sym c.non_zero.ensures ∙ c.if-not-non_zero.false in
+    let left = sym (rw c.if-ids-ne-VOTERS.false at c.blank.ensures) ∙ c.if-blank.false in
+    rw (ids, weights, few, rise, some, left) c.if-blank.false
 
 pub returns-then-blank : goal.returns-then-blank
 unfolding placed
 returns-then-blank c =
-    let ids = rw c.if-ids-ne-VOTERS.false at c.blank.ensures in
-    let weights = rw c.if-weights-ne-VOTERS.false at c.blank-then-blank.ensures in
-    rw (eq-eqb _ VOTERS c.if-ids-ne-VOTERS.false, eq-eqb _ VOTERS c.if-weights-ne-VOTERS.false, le-leb _ VOTERS c.if-count-gt-VOTERS.false, sym c.rising.ensures ∙ c.if-not-rising.false, sym c.non_zero.ensures ∙ c.if-not-non_zero.false, sym ids ∙ c.if-blank.true) weights
+    let ids = eq-eqb _ VOTERS c.if-ids-ne-VOTERS.false in
+    let weights = eq-eqb _ VOTERS c.if-weights-ne-VOTERS.false in
+    let few = le-leb _ VOTERS c.if-count-gt-VOTERS.false in
+    let rise = sym c.rising.ensures ∙ c.if-not-rising.false in
+    let some = sym c.non_zero.ensures ∙ c.if-not-non_zero.false in
+    let none = sym (rw c.if-ids-ne-VOTERS.false at c.blank.ensures) ∙ c.if-blank.true in
+    rw (ids, weights, few, rise, some, none) (rw c.if-weights-ne-VOTERS.false at c.blank-then-blank.ensures)
