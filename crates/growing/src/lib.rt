@@ -145,21 +145,16 @@ pub fn run(
         };
         let fields = marks::fields(part, mark);
         let took = take(ids, numbers, parents, &mut slots, blocks, mark, fields);
-        let turn = took.turn;
         blocks = took.blocks;
-        match turn {
-            ControlFlow::Continue(()) => {
-                taken = taken + 1;
-                at = at + 2 + fields.len();
-            }
-            ControlFlow::Break(end) => {
-                return Grown {
-                    blocks,
-                    count: taken,
-                    at,
-                    end,
-                };
-            }
+        if let ControlFlow::Break(end) = took.turn {
+            return Grown {
+                blocks,
+                count: taken,
+                at,
+                end,
+            };
         }
+        taken += 1;
+        at += 2 + fields.len();
     }
 }

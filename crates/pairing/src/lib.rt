@@ -99,21 +99,16 @@ pub fn run(ids: &mut [u32; PAIRS], weights: &mut [u64; PAIRS], count: usize, byt
         };
         let fields = marks::fields(part, mark);
         let took = take(ids, weights, pairs, mark, fields);
-        let turn = took.turn;
         pairs = took.pairs;
-        match turn {
-            ControlFlow::Continue(()) => {
-                taken = taken + 1;
-                at = at + 2 + fields.len();
-            }
-            ControlFlow::Break(end) => {
-                return Paired {
-                    pairs,
-                    count: taken,
-                    at,
-                    end,
-                };
-            }
+        if let ControlFlow::Break(end) = took.turn {
+            return Paired {
+                pairs,
+                count: taken,
+                at,
+                end,
+            };
         }
+        taken += 1;
+        at += 2 + fields.len();
     }
 }

@@ -27,6 +27,10 @@ part at bs = take (length bs - at) (drop at bs)
 abbrev pub NotWhole : Record → Type 0
 NotWhole r = (m : Mark) → r ≡ is.Whole m → ⊥
 
+-- what code knows past `if let ControlFlow::Break(end) = ..`
+abbrev pub NotBreak : ControlFlow End ⊤ → Type 0
+NotBreak u = (e : End) → u ≡ Break e → ⊥
+
 -- why a loop is over
 abbrev over : ControlFlow End ⊤ → End
 over (Continue tt) = Cut
@@ -34,16 +38,16 @@ over (Break e) = e
 
 -- a record that was read whole ends within the bytes
 next_fits : (at : ℕ) (bs : List ℕ) (m : Mark) (fs : List ℕ) → at ≤ length bs → read (part at bs) ≡ is.Whole m → fs ≡ fields m (part at bs)
-    → at + 2 + length fs ≤ length bs
+    → at + (2 + length fs) ≤ length bs
 next_fits at bs m fs h e f =
     omega (arith, whole_fits at bs m h (ap read (sym (part_drop at bs)) ∙ e), ap length f ∙ whole_fields (part at bs) m e)
 
 -- the numbers of the next turn fit, and less is left to read
 pub record Fitting (bs fs : List ℕ) (n at : ℕ) : Type 0 where
   pub count : Fits w64 (n + 1)
-  pub mark : Fits w64 (at + 2)
-  pub place : Fits w64 (at + 2 + length fs)
-  pub less : length bs - (at + 2 + length fs) < length bs - at
+  pub taken : Fits w64 (2 + length fs)
+  pub place : Fits w64 (at + (2 + length fs))
+  pub less : length bs - (at + (2 + length fs)) < length bs - at
 
 module _ {S : Type 0} (step : S → Mark → List ℕ → Next S) where
   -- before a record: the place lies within the bytes, each record taken had a byte, and the whole run is what is left to run
@@ -62,7 +66,7 @@ module _ {S : Type 0} (step : S → Mark → List ℕ → Next S) where
       let fit = next_fits at bs m fs g.within e f in
       record {
         count = record { fits = omega arith };
-        mark = record { fits = omega arith };
+        taken = record { fits = omega arith };
         place = record { fits = omega arith };
         less = omega arith;
       }
@@ -73,20 +77,21 @@ module _ {S : Type 0} (step : S → Mark → List ℕ → Next S) where
   next_goes s t (stops n) e = absurd (let f = ap (λ (r : Tried S). r.turn) e in let z : ◌≡◌ {A = ℕ} 0 1 = cc in omega arith)
   next_goes s t leaves e = absurd (let f = ap (λ (r : Tried S). r.turn) e in let z : ◌≡◌ {A = ℕ} 0 1 = cc in omega arith)
 
-  pub tried_goes : (s t : S) (m : Mark) (fs : List ℕ) (u : ControlFlow End ⊤) → record { state = t; turn = u } ≡ tried step s m fs → u ≡ Continue tt
+  pub tried_goes : (s t : S) (m : Mark) (fs : List ℕ) (u : ControlFlow End ⊤) → record { state = t; turn = u } ≡ tried step s m fs → NotBreak u
       → step s m fs ≡ goes t
   unfolding tried
-  tried_goes s t m fs u h e = next_goes s t (step s m fs) (ap (λ x. record { state = t; turn = x }) (sym e) ∙ h)
+  tried_goes s t m fs (Continue tt) h e = next_goes s t (step s m fs) h
+  tried_goes s t m fs (Break x) h e = absurd (e x refl)
 
   -- a record was taken
   pub going_on : (first s t : S) (n at : ℕ) (bs : List ℕ) (m : Mark) (fs : List ℕ) → Going first bs s n at → read (part at bs) ≡ is.Whole m
-      → fs ≡ fields m (part at bs) → step s m fs ≡ goes t → Going first bs t (n + 1) (at + 2 + length fs)
+      → fs ≡ fields m (part at bs) → step s m fs ≡ goes t → Going first bs t (n + 1) (at + (2 + length fs))
   going_on first s t n at bs m fs g e f q =
       let d = part_drop at bs in
       let r = ap read (sym d) ∙ e in
       let w = g.within in
       let l = g.fewer in
-      let z : at + 2 + length fs ≡ at + (2 + size m) = omega (arith, ap length f ∙ whole_fields (part at bs) m e) in
+      let z : at + (2 + length fs) ≡ at + (2 + size m) = omega (arith, ap length f ∙ whole_fields (part at bs) m e) in
       record {
         within = omega (arith, whole_fits at bs m w r);
         fewer = omega arith;

@@ -64,12 +64,8 @@ fn turn(answer: Result<ImportResult, Refusal>) -> ControlFlow<End>
     ensures { result ≡ turn_of answer }
 {
     match answer {
+        Ok(_) => ControlFlow::Continue(()),
         Err(refusal) => ControlFlow::Break(End::Refused(refusal)),
-        Ok(ImportResult::Outside) => ControlFlow::Continue(()),
-        Ok(ImportResult::Counted) => ControlFlow::Continue(()),
-        Ok(ImportResult::Duplicated) => ControlFlow::Continue(()),
-        Ok(ImportResult::Equivocated(_)) => ControlFlow::Continue(()),
-        Ok(ImportResult::Ignored) => ControlFlow::Continue(()),
     }
 }
 
@@ -80,9 +76,7 @@ fn kind_of(mark: Mark) -> Kind
         Mark::Bk => Kind::Block,
         Mark::Pv => Kind::Vote(Phase::Prevote),
         Mark::Pc => Kind::Vote(Phase::Precommit),
-        Mark::Vt => Kind::Other,
-        Mark::Rt => Kind::Other,
-        Mark::Op => Kind::Other,
+        Mark::Vt | Mark::Rt | Mark::Op => Kind::Other,
     }
 }
 
@@ -129,9 +123,8 @@ fn take<'a>(
     match kind_of(mark) {
         Kind::Block => {
             let took = growing::add(ids, numbers, parents, blocks, fields);
-            let turn = took.turn;
             Took {
-                turn,
+                turn: took.turn,
                 blocks: took.blocks,
                 standing,
             }
@@ -168,12 +161,10 @@ fn take<'a>(
                 signer,
                 cast,
             );
-            let answer = step.answer;
-            let standing = step.standing;
             Took {
-                turn: turn(answer),
+                turn: turn(step.answer),
                 blocks,
-                standing,
+                standing: step.standing,
             }
         }
         Kind::Other => Took {
@@ -267,23 +258,18 @@ pub fn run<'a>(
             mark,
             fields,
         );
-        let turn = took.turn;
         grown = took.blocks;
         standing = took.standing;
-        match turn {
-            ControlFlow::Continue(()) => {
-                taken = taken + 1;
-                at = at + 2 + fields.len();
-            }
-            ControlFlow::Break(end) => {
-                return Ran {
-                    blocks: grown,
-                    standing,
-                    count: taken,
-                    at,
-                    end,
-                };
-            }
+        if let ControlFlow::Break(end) = took.turn {
+            return Ran {
+                blocks: grown,
+                standing,
+                count: taken,
+                at,
+                end,
+            };
         }
+        taken += 1;
+        at += 2 + fields.len();
     }
 }

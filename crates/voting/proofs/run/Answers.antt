@@ -33,10 +33,10 @@ pub overflow_add-taken : goal.overflow_add-taken
 overflow_add-taken c = (going_fits voted _ _ _ _ _ _ _ c.loop-mark.invariant.0 (sym c.read.ensures ∙ c.in-Whole.is) c.fields-fields.ensures c.well_formed.1.1.1.1.1.1.1.1.1.1.1.1.1.1.1.1.1.1.1.1.1.1.1.1.0.0).count
 
 pub overflow_add-at : goal.overflow_add-at
-overflow_add-at c = (going_fits voted _ _ _ _ _ _ _ c.loop-mark.invariant.0 (sym c.read.ensures ∙ c.in-Whole.is) c.fields-fields.ensures c.well_formed.1.1.1.1.1.1.1.1.1.1.1.1.1.1.1.1.1.1.1.1.1.1.1.1.0.0).mark
+overflow_add-at c = (going_fits voted _ _ _ _ _ _ _ c.loop-mark.invariant.0 (sym c.read.ensures ∙ c.in-Whole.is) c.fields-fields.ensures c.well_formed.1.1.1.1.1.1.1.1.1.1.1.1.1.1.1.1.1.1.1.1.1.1.1.1.0.0).taken
 
-pub overflow_add-at-in-Continue : goal.overflow_add-at-in-Continue
-overflow_add-at-in-Continue c = (going_fits voted _ _ _ _ _ _ _ c.loop-mark.invariant.0 (sym c.read.ensures ∙ c.in-Whole.is) c.fields-fields.ensures c.well_formed.1.1.1.1.1.1.1.1.1.1.1.1.1.1.1.1.1.1.1.1.1.1.1.1.0.0).place
+pub overflow_add-at-in-loop-mark : goal.overflow_add-at-in-loop-mark
+overflow_add-at-in-loop-mark c = (going_fits voted _ _ _ _ _ _ _ c.loop-mark.invariant.0 (sym c.read.ensures ∙ c.in-Whole.is) c.fields-fields.ensures c.well_formed.1.1.1.1.1.1.1.1.1.1.1.1.1.1.1.1.1.1.1.1.1.1.1.1.0.0).place
 
 pub loop-mark-smaller : goal.loop-mark-smaller
 loop-mark-smaller c = (going_fits voted _ _ _ _ _ _ _ c.loop-mark.invariant.0 (sym c.read.ensures ∙ c.in-Whole.is) c.fields-fields.ensures c.well_formed.1.1.1.1.1.1.1.1.1.1.1.1.1.1.1.1.1.1.1.1.1.1.1.1.0.0).less
@@ -44,7 +44,7 @@ loop-mark-smaller c = (going_fits voted _ _ _ _ _ _ _ c.loop-mark.invariant.0 (s
 pub loop-mark-preserved : goal.loop-mark-preserved
 loop-mark-preserved c = (
   going_on voted _ _ _ _ _ _ _ _ c.loop-mark.invariant.0 (sym c.read.ensures ∙ c.in-Whole.is) c.fields-fields.ensures
-      (tried_goes voted _ _ _ _ _ c.take-took.ensures c.in-Continue.is),
+      (tried_goes voted _ _ _ _ _ c.take-took.ensures c.in_default-turn.not-Break),
   record_keeps _ _ c.loop-mark.invariant.1 _ _ _ _ _ c.take-took.ensures,
 )
 
