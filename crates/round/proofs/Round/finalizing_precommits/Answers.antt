@@ -1,19 +1,20 @@
-use mathlib.Core.Path.{sym, ◌∙◌}
 use Rattle.round.specs.Ask.{finalizing_precommits}
-use Rattle.loops.proofs.Tests.{T_true}
+use Rattle.listing.specs.Written.{Lent}
 use Rattle.round.proofs.Lists.{finalizing_done}
+use Rattle.round.proofs.Tested.{passes, passed, refuses}
 use Rattle.round.proofs.Round.finalizing_precommits.Goals as goal
 
-pub returns-then-not-is_round : goal.returns-then-not-is_round
+pub returns-in_err-tested : goal.returns-in_err-tested
 unfolding finalizing_precommits
-returns-then-not-is_round c = rw (sym c.is_round.ensures ∙ c.if-not-is_round.true)
+returns-in_err-tested c =
+    refuses {B = Lent} (λ x. record { answer = x; bytes = c.args.out.now }) c.args.self _ _ c.in_err-tested.ensures c.from_residual.ensures.1
 
 pub returns-in_default : goal.returns-in_default
 unfolding finalizing_precommits
-returns-in_default c = rw (sym c.is_round.ensures ∙ c.if-not-is_round.false, c.in_default.is)
+returns-in_default c = rw (passes c.args.self c.in_ok-tested.ensures, c.in_default.is)
 
 pub listed-requires : goal.listed-requires
-listed-requires c = T_true (sym c.is_round.ensures ∙ c.if-not-is_round.false)
+listed-requires c = passed c.args.self c.in_ok-tested.ensures
 
 pub returns : goal.returns
-returns c = finalizing_done c.args.self _ _ _ (sym c.is_round.ensures ∙ c.if-not-is_round.false) c.in-Some.is c.listed.ensures
+returns c = finalizing_done c.args.self _ _ _ (passes c.args.self c.in_ok-tested.ensures) c.in-Some.is c.listed.ensures

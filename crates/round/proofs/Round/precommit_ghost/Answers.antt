@@ -12,4 +12,4 @@ sought-found-requires c = (T_true (sym c.is_round.ensures ∙ c.if-not-is_round.
 
 pub returns : goal.returns
 unfolding precommit_ghost
-returns c = rw (sym c.is_round.ensures ∙ c.if-not-is_round.false, sym c.sought-found.ensures, c.block_of-answer.ensures)
+returns c = rw (sym c.is_round.ensures ∙ c.if-not-is_round.false, sym c.sought-found.ensures, c.block_of.ensures)

@@ -1,15 +1,16 @@
-use mathlib.Core.Path.{sym, ◌∙◌}
 use Rattle.round.specs.Ask.{votes_of}
-use Rattle.loops.proofs.Tests.{T_true}
+use Rattle.listing.specs.Written.{Lent}
+use Rattle.round.proofs.Tested.{passes, passed, refuses}
 use Rattle.round.proofs.Round.precommits.Goals as goal
 
-pub returns-then-not-is_round : goal.returns-then-not-is_round
+pub returns-in_err-tested : goal.returns-in_err-tested
 unfolding votes_of
-returns-then-not-is_round c = rw (sym c.is_round.ensures ∙ c.if-not-is_round.true)
+returns-in_err-tested c =
+    refuses {B = Lent} (λ x. record { answer = x; bytes = c.args.out.now }) c.args.self _ _ c.in_err-tested.ensures c.from_residual.ensures.1
 
 pub listed-requires : goal.listed-requires
-listed-requires c = T_true (sym c.is_round.ensures ∙ c.if-not-is_round.false)
+listed-requires c = passed c.args.self c.in_ok-tested.ensures
 
 pub returns : goal.returns
 unfolding votes_of
-returns c = rw (sym c.is_round.ensures ∙ c.if-not-is_round.false) c.listed.ensures
+returns c = rw (passes c.args.self c.in_ok-tested.ensures) c.listed.ensures
