@@ -58,7 +58,7 @@ module _ (g : VoteGraph) (t : BlockTable) (id bit : ℕ) where
       gate true q = go q (target t.ids t.parents t.count g.base id) refl
       gate false q = h
 
-  pub insert_refused : (n : ℕ) → (insert g t id bit).answer ≡ Err n → (insert g t id bit).graph ≡ g
+  pub insert_refused : (n : Refusal) → (insert g t id bit).answer ≡ Err n → (insert g t id bit).graph ≡ g
   unfolding insert
   insert_refused n e = gate (is_graph g t) e
     where

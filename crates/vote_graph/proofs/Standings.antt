@@ -1,5 +1,5 @@
 -- What a block that a call names has, and what the inner calls ask of it.
-use mathlib.Core.Bool.{Bool, true, false, cond}
+use mathlib.Core.Bool.{Bool, true, false, cond, not}
 use mathlib.Core.List.{List}
 use mathlib.Core.Path.{◌≡◌, refl, sym, ap, subst, ◌∙◌}
 use mathlib.Core.Logic.{◌≢◌}
@@ -34,17 +34,21 @@ use Rattle.std.specs.Prelude.{Option, Some, None, Result, Ok, Err}
 use Rattle.refusals.specs.declared.Refusal.{Refusal}
 use Rattle.refusals.specs.declared.Refusal.TheVariants.{OffTheBase, UnknownTarget}
 
-at_most_one : {n k : ℕ} → ◌≡◌ {A = Result ℕ Refusal} (Err n) (Ok k) → ⊥
-at_most_one e = let z : ◌≡◌ {A = ℕ} 0 1 = cc in omega arith
+pub not_not : (b : Bool) → not b ≡ false → b ≡ true
+not_not true e = refl
+not_not false e = sym e
+
+at_most_one : {e : Refusal} {k : ℕ} → ◌≡◌ {A = Result ℕ Refusal} (Err e) (Ok k) → ⊥
+at_most_one q = let z : ◌≡◌ {A = ℕ} 0 1 = cc in omega arith
 
 same_place : {j k : ℕ} → ◌≡◌ {A = Result ℕ Refusal} (Ok j) (Ok k) → j ≡ k
-same_place e = ap (λ (x : Result ℕ Refusal). on_target x (λ n. n) (λ n. n)) e
+same_place e = ap (λ (x : Result ℕ Refusal). on_target x (λ n. n) (λ r. 0)) e
 
 in_base_at : (parents : List ℕ) (base j k : ℕ) → in_base parents base j ≡ Ok k → (j ≡ k) × T (below (col parents) base j)
 unfolding in_base
 in_base_at parents base j k e = go (below (col parents) base j) refl e
   where
-    go : (b : Bool) → below (col parents) base j ≡ b → cond b (Ok j) (Err OffTheBase) ≡ Ok k → (j ≡ k) × T (below (col parents) base j)
+    go : (b : Bool) → below (col parents) base j ≡ b → ◌≡◌ {A = Result ℕ Refusal} (cond b (Ok j) (Err OffTheBase)) (Ok k) → (j ≡ k) × T (below (col parents) base j)
     go true q r = (same_place r, T_true q)
     go false q r = absurd (at_most_one r)
 

@@ -1,6 +1,6 @@
 -- The calls on a vote graph. Document 01, "Porting order" 6, and "Refusal numbers" 9, 11, 13, in that order; a refusal
 -- hands the graph back equal.
-use Rattle.std.specs.Prelude.{cond, List, ℕ, Option, Some, None, Result, Ok, Err}
+use Rattle.std.specs.Prelude.{Bool, cond, List, ℕ, Option, Some, None, Result, Ok, Err}
 use Rattle.grandpa.specs.Tree.{below}
 use Rattle.blocks.specs.declared.BlockTable.{BlockTable}
 use Rattle.blocks.specs.Add.{place_of, on_place}
@@ -22,7 +22,7 @@ unfoldable pub voted : VoteGraph → BlockTable → ℕ → ℕ → VoteGraph
 voted g t k bit = graph_of g.base (inserted t.parents t.ids g.base k bit (columns g))
 
 abbrev pub refused : VoteGraph → Refusal → Inserted
-refused g n = record { answer = Err n; graph = g }
+refused g e = record { answer = Err e; graph = g }
 
 abbrev pub placed : VoteGraph → BlockTable → ℕ → ℕ → Inserted
 placed g t bit k = record { answer = Ok k; graph = voted g t k bit }
@@ -58,7 +58,7 @@ find_ancestor g t ok id =
 
 -- `find_ghost`
 unfoldable pub ghost_of : VoteGraph → BlockTable → (List ℕ → Bool) → ℕ → Option ℕ
-ghost_of g t ok k = (ghost_steps.find_ghost (col t.parents) (view (columns g)) ok k)
+ghost_of g t ok k = ghost_steps.find_ghost (col t.parents) (view (columns g)) ok k
 
 unfoldable pub find_ghost : VoteGraph → BlockTable → (List ℕ → Bool) → Option ℕ → Result (Option ℕ) Refusal
 find_ghost g t ok from =

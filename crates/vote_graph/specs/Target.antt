@@ -19,6 +19,6 @@ unfoldable pub start : List ℕ → ℕ → ℕ → Option ℕ → Result ℕ Re
 start parents count base None = Ok base
 start parents count base (Some k) = cond (ltb k count) (in_base parents base k) (Err UnknownTarget)
 
-abbrev pub on_target : {A : Type 0} → Result ℕ Refusal → (ℕ → A) → (ℕ → A) → A
+abbrev pub on_target : {A : Type 0} → Result ℕ Refusal → (ℕ → A) → (Refusal → A) → A
 on_target (Ok k) f r = f k
-on_target (Err n) f r = r n
+on_target (Err e) f r = r e

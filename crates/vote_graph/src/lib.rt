@@ -32,7 +32,7 @@ pub struct VoteGraph {
     pub tips: usize,
 }
 
-// The answer and the graph beside it: an enum holds no array.
+// The answer, and the graph after the call.
 #[derive(Clone, Copy)]
 pub struct Inserted {
     pub answer: Result<u8, Refusal>,

@@ -1,6 +1,6 @@
 -- What `new` answers, and what a set that it makes holds.
 use mathlib.Core.Bool.{Bool, true, false, cond}
-use mathlib.Core.List.{List, []}
+use mathlib.Core.List.{List}
 use mathlib.Core.Path.{◌≡◌, refl, sym, ap, ◌∙◌}
 use mathlib.Core.Logic.{◌⊎◌, inl, inr, ◌≢◌}
 use Prim.Native.Nat.{ℕ, ◌≤◌, ◌<◌}
@@ -12,7 +12,6 @@ use borrow.Author.Tests.{eq-eqb, ne_eqb, lt-ltb, le-ltb}
 use Rattle.sizes.specs.Sizes.{VOTERS, PAIRS}
 use Rattle.loops.specs.Sum.{sum}
 use Rattle.loops.proofs.Sums.{sum_cong, sum_at, sum_some}
-use Rattle.columns.specs.Lists.{padded}
 use Rattle.columns.proofs.Padded.{length_padded, get_padded}
 use Rattle.weights.specs.Weights.{most}
 use Rattle.totals.specs.Totals.{total_of}
@@ -27,7 +26,7 @@ use Rattle.voter_pairs.proofs.Shares.{Live, weight_in, held, rising_pair, live_a
 use Rattle.voter_laws.proofs.Goods.{means_good}
 use Rattle.voter_laws.proofs.Lookups.{Known, Unknown, get_cases}
 use Rattle.refusals.specs.declared.Refusal.TheVariants.{NoWeight, TooManyVoters, VoterList, WeightOverflow}
-use Rattle.std.specs.Prelude.{Result, Ok, Err}
+use Rattle.std.specs.Prelude.{Ok, Err}
 use Rattle.refusals.specs.declared.Refusal.{Refusal}
 use Rattle.voter_set.specs.declared.VoterSet.{VoterSet}
 

@@ -1,3 +1,4 @@
+use borrow.Author.Rules.{rules}
 use mathlib.Core.Path.{sym, ◌∙◌}
 use Rattle.vote_graph.specs.Calls.{find_ancestor}
 use Rattle.vote_graph.proofs.Standings.{gate_falls, gate_few, target_stands}
@@ -12,13 +13,13 @@ of-requires g c =
     let h = sym c.is_graph.ensures ∙ c.if-not-is_graph.false in
     (gate_falls _ _ h, gate_few _ _ h)
 
-pub ancestor-found-requires : goal.ancestor-found-requires
-ancestor-found-requires g c = target_stands _ _ (sym c.is_graph.ensures ∙ c.if-not-is_graph.false) _ _ (sym c.of.ensures ∙ c.in-Some.is)
+pub ancestor-requires : goal.ancestor-requires
+ancestor-requires g c = target_stands _ _ (sym c.is_graph.ensures ∙ c.if-not-is_graph.false) _ _ (sym c.of.ensures ∙ c.in_ok-place.was)
 
-pub returns-in-Err : goal.returns-in-Err
+pub returns-in_err-place : goal.returns-in_err-place
 unfolding find_ancestor
-returns-in-Err g c = rw (sym c.is_graph.ensures ∙ c.if-not-is_graph.false, sym c.of.ensures ∙ c.in-Err.is)
+returns-in_err-place g c = rw (sym c.is_graph.ensures ∙ c.if-not-is_graph.false, sym c.of.ensures ∙ c.in_err-place.was) (search rules)
 
-pub returns-in-Some : goal.returns-in-Some
+pub returns : goal.returns
 unfolding find_ancestor
-returns-in-Some g c = rw (sym c.is_graph.ensures ∙ c.if-not-is_graph.false, sym c.of.ensures ∙ c.in-Some.is, c.Ok.ensures, c.ancestor-found.ensures)
+returns g c = rw (sym c.is_graph.ensures ∙ c.if-not-is_graph.false, sym c.of.ensures ∙ c.in_ok-place.was, c.ancestor.ensures)

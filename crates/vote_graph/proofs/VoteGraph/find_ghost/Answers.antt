@@ -1,3 +1,4 @@
+use borrow.Author.Rules.{rules}
 use mathlib.Core.Path.{sym, ◌∙◌}
 use Rattle.vote_graph.specs.Calls.{find_ghost}
 use Rattle.vote_graph.proofs.Standings.{gate_falls, start_stands}
@@ -10,13 +11,13 @@ returns-then-not-is_graph g c = rw (sym c.is_graph.ensures ∙ c.if-not-is_graph
 pub start-requires : goal.start-requires
 start-requires g c = gate_falls _ _ (sym c.is_graph.ensures ∙ c.if-not-is_graph.false)
 
-pub heaviest-found-requires : goal.heaviest-found-requires
-heaviest-found-requires g c = start_stands _ _ (sym c.is_graph.ensures ∙ c.if-not-is_graph.false) _ _ (sym c.start.ensures ∙ c.in-Some.is)
+pub heaviest-requires : goal.heaviest-requires
+heaviest-requires g c = start_stands _ _ (sym c.is_graph.ensures ∙ c.if-not-is_graph.false) _ _ (sym c.start.ensures ∙ c.in_ok-place.was)
 
-pub returns-in-Err : goal.returns-in-Err
+pub returns-in_err-place : goal.returns-in_err-place
 unfolding find_ghost
-returns-in-Err g c = rw (sym c.is_graph.ensures ∙ c.if-not-is_graph.false, sym c.start.ensures ∙ c.in-Err.is)
+returns-in_err-place g c = rw (sym c.is_graph.ensures ∙ c.if-not-is_graph.false, sym c.start.ensures ∙ c.in_err-place.was) (search rules)
 
-pub returns-in-Some : goal.returns-in-Some
+pub returns : goal.returns
 unfolding find_ghost
-returns-in-Some g c = rw (sym c.is_graph.ensures ∙ c.if-not-is_graph.false, sym c.start.ensures ∙ c.in-Some.is, c.Ok.ensures, c.heaviest-found.ensures)
+returns g c = rw (sym c.is_graph.ensures ∙ c.if-not-is_graph.false, sym c.start.ensures ∙ c.in_ok-place.was, c.heaviest.ensures)

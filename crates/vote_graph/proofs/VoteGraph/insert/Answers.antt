@@ -13,12 +13,12 @@ of-requires c =
     (gate_falls _ _ h, gate_few _ _ h)
 
 pub voted-graph-requires : goal.voted-graph-requires
-voted-graph-requires c = target_stands _ _ (sym c.is_graph.ensures ∙ c.if-not-is_graph.false) _ _ (sym c.of.ensures ∙ c.in-Some.is)
+voted-graph-requires c = target_stands _ _ (sym c.is_graph.ensures ∙ c.if-not-is_graph.false) _ _ (sym c.of.ensures ∙ c.in-Ok.is)
 
 pub returns-in-Err : goal.returns-in-Err
 unfolding insert
 returns-in-Err c = rw (sym c.is_graph.ensures ∙ c.if-not-is_graph.false, sym c.of.ensures ∙ c.in-Err.is)
 
-pub returns-in-Some : goal.returns-in-Some
+pub returns-in-Ok : goal.returns-in-Ok
 unfolding insert
-returns-in-Some c = rw (sym c.is_graph.ensures ∙ c.if-not-is_graph.false, sym c.of.ensures ∙ c.in-Some.is, c.voted-graph.ensures)
+returns-in-Ok c = rw (sym c.is_graph.ensures ∙ c.if-not-is_graph.false, sym c.of.ensures ∙ c.in-Ok.is, c.voted-graph.ensures)
