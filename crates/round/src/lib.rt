@@ -211,27 +211,15 @@ fn records(
     )
 }
 
-fn marked(history: History, phase: Phase) -> History
+fn marked(mut history: History, phase: Phase) -> History
     ensures { result ≡ marked phase history }
 {
-    let entries = history.entries;
-    let prevoted = history.prevoted;
-    let precommitted = history.precommitted;
     let seen = Some(history.count as u64);
     match phase {
-        Phase::Prevote => History {
-            entries,
-            count: history.count,
-            prevoted: seen,
-            precommitted,
-        },
-        Phase::Precommit => History {
-            entries,
-            count: history.count,
-            prevoted,
-            precommitted: seen,
-        },
+        Phase::Prevote => history.prevoted = seen,
+        Phase::Precommit => history.precommitted = seen,
     }
+    history
 }
 
 impl Round {
@@ -470,8 +458,13 @@ impl Round {
         }
     }
 
-    pub fn import_prevote(self, signer: u32, pair: Pair) -> After<Result<ImportResult, Refusal>>
-        ensures { result ≡ import_vote Prevote signer pair self }
+    fn import_vote(
+        self,
+        phase: Phase,
+        signer: u32,
+        pair: Pair,
+    ) -> After<Result<ImportResult, Refusal>>
+        ensures { result ≡ import_vote phase signer pair self }
     {
         if !self.is_round() {
             return After {
@@ -479,19 +472,19 @@ impl Round {
                 round: self,
             };
         }
-        self.import(Phase::Prevote, signer, pair)
+        self.import(phase, signer, pair)
+    }
+
+    pub fn import_prevote(self, signer: u32, pair: Pair) -> After<Result<ImportResult, Refusal>>
+        ensures { result ≡ import_vote Prevote signer pair self }
+    {
+        self.import_vote(Phase::Prevote, signer, pair)
     }
 
     pub fn import_precommit(self, signer: u32, pair: Pair) -> After<Result<ImportResult, Refusal>>
         ensures { result ≡ import_vote Precommit signer pair self }
     {
-        if !self.is_round() {
-            return After {
-                answer: Err(Refusal::Misshapen),
-                round: self,
-            };
-        }
-        self.import(Phase::Precommit, signer, pair)
+        self.import_vote(Phase::Precommit, signer, pair)
     }
 
     // The precommit-GHOST, from the stored one, on a round that keeps the shape rules.
@@ -546,9 +539,9 @@ impl Round {
         }
     }
 
-    // This desk has prevoted: the votes seen so far.
-    pub fn set_prevoted_index(mut self) -> After<Result<(), Refusal>>
-        ensures { result ≡ set_index Prevote self }
+    // This desk has voted in a phase: the votes seen so far.
+    fn set_index(mut self, phase: Phase) -> After<Result<(), Refusal>>
+        ensures { result ≡ set_index phase self }
     {
         if !self.is_round() {
             return After {
@@ -557,29 +550,23 @@ impl Round {
             };
         }
         let history = self.history;
-        self.history = marked(history, Phase::Prevote);
+        self.history = marked(history, phase);
         After {
             answer: Ok(()),
             round: self,
         }
     }
 
-    // The same of a precommit.
-    pub fn set_precommitted_index(mut self) -> After<Result<(), Refusal>>
+    pub fn set_prevoted_index(self) -> After<Result<(), Refusal>>
+        ensures { result ≡ set_index Prevote self }
+    {
+        self.set_index(Phase::Prevote)
+    }
+
+    pub fn set_precommitted_index(self) -> After<Result<(), Refusal>>
         ensures { result ≡ set_index Precommit self }
     {
-        if !self.is_round() {
-            return After {
-                answer: Err(Refusal::Misshapen),
-                round: self,
-            };
-        }
-        let history = self.history;
-        self.history = marked(history, Phase::Precommit);
-        After {
-            answer: Ok(()),
-            round: self,
-        }
+        self.set_index(Phase::Precommit)
     }
 
     // Refusal 9, where the round breaks a shape rule.

@@ -1,6 +1,6 @@
 use mathlib.Core.Path.{sym, ◌∙◌}
 use Rattle.round.specs.Calls.{set_index}
-use Rattle.round.proofs.Round.set_precommitted_index.Goals as goal
+use Rattle.round.proofs.Round.set_index.Goals as goal
 
 pub returns-then-not-is_round : goal.returns-then-not-is_round
 unfolding set_index

@@ -1,7 +1,7 @@
 use mathlib.Core.Path.{sym, ◌∙◌}
 use Rattle.loops.proofs.Tests.{T_true}
 use Rattle.round.specs.Calls.{import_vote}
-use Rattle.round.proofs.Round.import_prevote.Goals as goal
+use Rattle.round.proofs.Round.import_vote.Goals as goal
 
 pub returns-then-not-is_round : goal.returns-then-not-is_round
 unfolding import_vote
