@@ -8,7 +8,6 @@ use lib.Seq.{drop-drop}
 use Rattle.sizes.specs.Sizes.{PAIRS}
 use Rattle.weights.specs.Weights.{most}
 use Rattle.voter_set.specs.declared.VoterSet.{VoterSet}
-use Rattle.voter_set.specs.declared.Answer.TheVariants as voters
 use Rattle.voter_set.specs.Voters.{new}
 use Rattle.voter_laws.proofs.Made.{made_fit, made_total, new_good}
 use Rattle.blocks.specs.declared.BlockTable.{BlockTable}
@@ -46,7 +45,7 @@ use Rattle.journal.specs.declared.Progress.{Progress}
 use Rattle.journal.specs.Journal.{round_of, laid, told_by, told, run_of, run_from}
 use Rattle.journal.proofs.Turning.{open_refused, open_goes, root_refused, root_goes}
 use Rattle.journal.proofs.Through.{voters_cut, voters_refused, voters_left, voters_rt, blocks_cut, blocks_refused, blocks_left, blocks_shaped, blocks_op, votes_through}
-use Rattle.std.specs.Prelude.{Some, None, Result}
+use Rattle.std.specs.Prelude.{Some, None, Result, Ok, Err}
 use Rattle.refusals.specs.declared.Refusal.TheVariants.{UnknownBase}
 use Rattle.refusals.specs.declared.Refusal.{Refusal}
 
@@ -136,34 +135,29 @@ module _ (v : VoterSet) (t : BlockTable) (stands : Stands Kept (growing v t)) (b
 -- the Rt
 module _ (p : Pairs) (bs : List ℕ) (whole : read bs ≡ is.Whole Rt) (fs : List ℕ) (all : fs ≡ fields Rt bs) (m : Result VoterSet Refusal)
     (made : m ≡ new (take p.count p.ids) (take p.count p.weights)) where
-  pub rt_refused : (n : Refusal) → m.answer ≡ voters.Refused n → (j : Journal) → j ≡ laid (pairing p) → ended j 0 bs (Refused n) ≡ run_from (pairing p) bs
-  rt_refused n e j f =
-      ap (λ (x : Journal). ended x 0 bs (Refused n)) f ∙ sym (root_refused p bs whole n (ap (λ (x : Result VoterSet Refusal). x.answer) (sym made) ∙ e))
+  pub rt_refused : (n : Refusal) → m ≡ Err n → (j : Journal) → j ≡ laid (pairing p) → ended j 0 bs (Refused n) ≡ run_from (pairing p) bs
+  rt_refused n e j f = ap (λ (x : Journal). ended x 0 bs (Refused n)) f ∙ sym (root_refused p bs whole n (sym made ∙ e))
 
-  module _ (yes : m.answer ≡ voters.Made) (a b : ℕ) (root : a ≡ word fs 0) (height : b ≡ word fs 4) (t : BlockTable) (is_table : t ≡ table.opened a b) where
-    is_made : (new (take p.count p.ids) (take p.count p.weights)).answer ≡ voters.Made
-    is_made = ap (λ (x : Result VoterSet Refusal). x.answer) (sym made) ∙ yes
+  module _ (v : VoterSet) (yes : m ≡ Ok v) (a b : ℕ) (root : a ≡ word fs 0) (height : b ≡ word fs 4) (t : BlockTable) (is_table : t ≡ table.opened a b) where
+    is_made : new (take p.count p.ids) (take p.count p.weights) ≡ Ok v
+    is_made = sym made ∙ yes
 
-    pub rt_ready : Stands Kept (growing m.voters t)
+    pub rt_ready : Stands Kept (growing v t)
     rt_ready =
-        subst (λ (x : Result VoterSet Refusal). Stands Kept (growing x.voters t)) (sym made)
-        (subst (λ (u : BlockTable). Stands Kept (growing (new (take p.count p.ids) (take p.count p.weights)).voters u)) (sym is_table) (
-          new_good (take p.count p.ids) (take p.count p.weights),
+        subst (λ (u : BlockTable). Stands Kept (growing v u)) (sym is_table) (
+          new_good (take p.count p.ids) (take p.count p.weights) is_made,
           subst (λ n. n ≤ most) (sym (made_total (take p.count p.ids) (take p.count p.weights) is_made))
               (made_fit (take p.count p.ids) (take p.count p.weights) is_made).fits,
           opened_shaped a b,
-        ))
+        )
 
-    pub rt_done : (x y : Progress) → run_of x (part 10 bs) ≡ run_from (growing m.voters t) (part 10 bs)
+    pub rt_done : (x y : Progress) → run_of x (part 10 bs) ≡ run_from (growing v t) (part 10 bs)
         → y ≡ record { journal = x.journal; count = 1 + x.count; at = 10 + x.at; end = x.end } → run_of y bs ≡ run_from (pairing p) bs
     unfolding after
     rt_done x y e f =
-        later_done (pairing p)
-        (growing (new (take p.count p.ids) (take p.count p.weights)).voters (table.opened (word (fields Rt bs) 0) (word (fields Rt bs) 4))) 1 10 bs
-        (root_goes p bs whole is_made) x y
+        later_done (pairing p) (growing v (table.opened (word (fields Rt bs) 0) (word (fields Rt bs) 4))) 1 10 bs (root_goes p bs whole v is_made) x y
         (part_run _ x 10 bs
-        (e ∙ ap (λ (n : Result VoterSet Refusal). run_from (growing n.voters t) (part 10 bs)) made
-        ∙ ap (λ (u : BlockTable). run_from (growing (new (take p.count p.ids) (take p.count p.weights)).voters u) (part 10 bs))
+        (e ∙ ap (λ (u : BlockTable). run_from (growing v u) (part 10 bs))
         (is_table ∙ (λ i. table.opened ((root ∙ ap (λ l. word l 0) all) i) ((height ∙ ap (λ l. word l 4) all) i)))))
         f
 
@@ -171,17 +165,29 @@ module _ (p : Pairs) (bs : List ℕ) (whole : read bs ≡ is.Whole Rt) (fs : Lis
 matched : {S : Type 0} (s : S) (n : ℕ) (rest : List ℕ) (x y : End) (r : Run S) → ended s n rest x ≡ r → x ≡ y → ended s n rest y ≡ r
 matched s n rest x y r e f = ap (λ (z : End). ended s n rest z) (sym f) ∙ e
 
+-- what code knows of an end that is not one of a turn, and the two ends that there are then
+abbrev NotLeft : End → Type 0
+NotLeft x = x ≡ Left → ⊥
+
+over_by : (x : End) (P : End → Type 0) → NotLeft x → (x ≡ Cut → P Cut) → ((k : Refusal) → x ≡ Refused k → P (Refused k)) → P x
+over_by Cut P h c r = c refl
+over_by (Refused k) P h c r = r k refl
+over_by Left P h c r = absurd (h refl)
+
 -- the second turn
 module _ (v : VoterSet) (t : BlockTable) (stands : Stands Kept (growing v t)) (u : BlockTable) (n a : ℕ) (bs : List ℕ) (x : End)
     (e : ended u n (drop a bs) x ≡ ran grown t bs) where
-  pub grown_cut : x ≡ Cut → (j : Journal) → j ≡ laid (growing v u) → ended j n (drop a bs) Cut ≡ run_from (growing v t) bs
+  grown_cut : x ≡ Cut → (j : Journal) → j ≡ laid (growing v u) → ended j n (drop a bs) Cut ≡ run_from (growing v t) bs
   grown_cut f j g =
       ap (λ (y : Journal). ended y n (drop a bs) Cut) g ∙ sym (blocks_cut v t u stands.2 n bs (drop a bs) (matched u n (drop a bs) x Cut _ e f))
 
-  pub grown_refused : (k : Refusal) → x ≡ Refused k → (j : Journal) → j ≡ laid (growing v u) → ended j n (drop a bs) (Refused k) ≡ run_from (growing v t) bs
+  grown_refused : (k : Refusal) → x ≡ Refused k → (j : Journal) → j ≡ laid (growing v u) → ended j n (drop a bs) (Refused k) ≡ run_from (growing v t) bs
   grown_refused k f j g =
       ap (λ (y : Journal). ended y n (drop a bs) (Refused k)) g
       ∙ sym (blocks_refused v t u stands.2 n bs (drop a bs) k (matched u n (drop a bs) x (Refused k) _ e f))
+
+  pub grown_over : NotLeft x → (j : Journal) → j ≡ laid (growing v u) → ended j n (drop a bs) x ≡ run_from (growing v t) bs
+  grown_over h j g = over_by x (λ y. ended j n (drop a bs) y ≡ run_from (growing v t) bs) h (λ f. grown_cut f j g) (λ k f. grown_refused k f j g)
 
   pub grown_ready : x ≡ Left → Stands Kept (growing v u) × (read (part a bs) ≡ is.Whole Op)
   grown_ready f = (
@@ -197,14 +203,17 @@ module _ (v : VoterSet) (t : BlockTable) (stands : Stands Kept (growing v t)) (u
 
 -- the first turn
 module _ (p : Pairs) (few : p.count ≤ PAIRS) (q : Pairs) (n a : ℕ) (bs : List ℕ) (x : End) (e : ended q n (drop a bs) x ≡ ran paired p bs) where
-  pub paired_cut : x ≡ Cut → (j : Journal) → j ≡ laid (pairing q) → ended j n (drop a bs) Cut ≡ run_from (pairing p) bs
+  paired_cut : x ≡ Cut → (j : Journal) → j ≡ laid (pairing q) → ended j n (drop a bs) Cut ≡ run_from (pairing p) bs
   paired_cut f j g =
       ap (λ (y : Journal). ended y n (drop a bs) Cut) g ∙ sym (voters_cut p q few n bs (drop a bs) (matched q n (drop a bs) x Cut _ e f))
 
-  pub paired_refused : (k : Refusal) → x ≡ Refused k → (j : Journal) → j ≡ laid (pairing q) → ended j n (drop a bs) (Refused k) ≡ run_from (pairing p) bs
+  paired_refused : (k : Refusal) → x ≡ Refused k → (j : Journal) → j ≡ laid (pairing q) → ended j n (drop a bs) (Refused k) ≡ run_from (pairing p) bs
   paired_refused k f j g =
       ap (λ (y : Journal). ended y n (drop a bs) (Refused k)) g
       ∙ sym (voters_refused p q few n bs (drop a bs) k (matched q n (drop a bs) x (Refused k) _ e f))
+
+  pub paired_over : NotLeft x → (j : Journal) → j ≡ laid (pairing q) → ended j n (drop a bs) x ≡ run_from (pairing p) bs
+  paired_over h j g = over_by x (λ y. ended j n (drop a bs) y ≡ run_from (pairing p) bs) h (λ f. paired_cut f j g) (λ k f. paired_refused k f j g)
 
   pub paired_read : x ≡ Left → read (part a bs) ≡ is.Whole Rt
   paired_read f = part_read a bs (voters_rt p q few n bs (drop a bs) (matched q n (drop a bs) x Left _ e f))

@@ -2,3 +2,4 @@ pub mod Turning
 pub mod Through
 pub mod Laid
 pub mod Done
+mod Unset

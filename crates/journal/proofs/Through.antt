@@ -86,12 +86,12 @@ paired_left p Rt fs e = refl
 paired_left p Vt fs e = go (leb PAIRS p.count) e
   where
     go : (b : Bool) → cond b (stops VoterList) (goes (with_pair p (word fs 0) (long fs 4))) ≡ leaves → Vt ≡ Rt
-    go true e = apart 1 e
+    go true e = apart VoterList e
     go false e = gone _ e
-paired_left p Bk fs e = apart 18 e
-paired_left p Op fs e = apart 18 e
-paired_left p Pv fs e = apart 18 e
-paired_left p Pc fs e = apart 18 e
+paired_left p Bk fs e = apart OutOfTurn e
+paired_left p Op fs e = apart OutOfTurn e
+paired_left p Pv fs e = apart OutOfTurn e
+paired_left p Pc fs e = apart OutOfTurn e
 
 grown_left : (t : BlockTable) (m : Mark) (fs : List ℕ) → grown t m fs ≡ leaves → m ≡ Op
 unfolding grown
@@ -101,10 +101,10 @@ grown_left t Bk fs e = go (added t fs).answer e
     go : (a : Result ℕ Refusal) → answered (added t fs).table a ≡ leaves → Bk ≡ Op
     go (Ok k) e = gone _ e
     go (Err n) e = apart n e
-grown_left t Vt fs e = apart 18 e
-grown_left t Rt fs e = apart 18 e
-grown_left t Pv fs e = apart 18 e
-grown_left t Pc fs e = apart 18 e
+grown_left t Vt fs e = apart OutOfTurn e
+grown_left t Rt fs e = apart OutOfTurn e
+grown_left t Pv fs e = apart OutOfTurn e
+grown_left t Pc fs e = apart OutOfTurn e
 
 answered_goes : (r : Voting) (a : Result ImportResult Refusal) → votes.answered r a ≡ leaves → ⊥
 answered_goes r (Err n) e = apart n e
@@ -123,9 +123,9 @@ voted_goes r Bk fs e = go (added r.frame.table fs).answer e
     go (Err n) e = apart n e
 voted_goes r Pv fs e = answered_goes _ (import r.frame Prevote (word fs 0) (pair_in fs) r.held).answer e
 voted_goes r Pc fs e = answered_goes _ (import r.frame Precommit (word fs 0) (pair_in fs) r.held).answer e
-voted_goes r Vt fs e = apart 18 e
-voted_goes r Rt fs e = apart 18 e
-voted_goes r Op fs e = apart 18 e
+voted_goes r Vt fs e = apart OutOfTurn e
+voted_goes r Rt fs e = apart OutOfTurn e
+voted_goes r Op fs e = apart OutOfTurn e
 
 -- the first turn
 module _ (p q : Pairs) (few : p.count ≤ PAIRS) (n : ℕ) (bs rest : List ℕ) where

@@ -4,8 +4,6 @@ use mathlib.Core.Path.{◌≡◌, refl, sym, ap, ◌∙◌}
 use Prim.Native.Nat.{ℕ, ◌+◌}
 use lib.ListN.{take, drop}
 use Rattle.voter_set.specs.declared.VoterSet.{VoterSet}
-use Rattle.voter_set.specs.declared.Answer.{Answer}
-use Rattle.voter_set.specs.declared.Answer.TheVariants.{Made, Refused}
 use Rattle.voter_set.specs.Voters.{new}
 use Rattle.blocks.specs.declared.BlockTable.{BlockTable}
 use Rattle.blocks.specs.Add.{place_of, on_place}
@@ -25,7 +23,7 @@ use Rattle.turns.specs.Turns as turns
 use Rattle.turns.specs.Turns.{pairing, growing, voting, seated, rooted, opened_round, based, took}
 use Rattle.journal.specs.declared.Journal.{Journal}
 use Rattle.journal.specs.Journal.{laid, by_value, run_from}
-use Rattle.std.specs.Prelude.{Option, Some, None}
+use Rattle.std.specs.Prelude.{Option, Some, None, Result, Ok, Err}
 use Rattle.refusals.specs.declared.Refusal.TheVariants.{UnknownBase}
 use Rattle.refusals.specs.declared.Refusal.{Refusal}
 
@@ -48,29 +46,22 @@ module _ (v : VoterSet) (t : BlockTable) (part : List ℕ) (whole : read part �
   at_op o e = ap (λ (p : Option ℕ). on_place p (λ b. goes (voting (opened_round (long (fields Op part) 0) v t b))) (stops UnknownBase)) e
 
   pub open_refused : place_of t.ids t.count (word (fields Op part) 8) ≡ None → run_from (growing v t) part ≡ ended (laid (growing v t)) 0 part (end.Refused UnknownBase)
-  open_refused e = from_ended (growing v t) (growing v t) 0 part part (end.Refused UnknownBase) (ran_stops took (growing v t) part Op 10 whole (at_op None e))
+  open_refused e = from_ended (growing v t) (growing v t) 0 part part (end.Refused UnknownBase) (ran_stops took (growing v t) part Op UnknownBase whole (at_op None e))
 
   pub open_goes : (b : ℕ) → place_of t.ids t.count (word (fields Op part) 8) ≡ Some b
       → run_from (growing v t) part ≡ counted 1 (run_from (voting (opened_round (long (fields Op part) 0) v t b)) (after Op part))
   open_goes b e = from_counted (growing v t) _ 1 part (after Op part) (ran_goes took (growing v t) _ part Op whole (at_op (Some b) e))
 
 module _ (p : Pairs) (part : List ℕ) (whole : read part ≡ is.Whole Rt) where
-  at_rt : (a : Answer) → (new (take p.count p.ids) (take p.count p.weights)).answer ≡ a
-      → took (pairing p) Rt (fields Rt part)
-      ≡ seated (new (take p.count p.ids) (take p.count p.weights)).voters (opened (word (fields Rt part) 0) (word (fields Rt part) 4)) a
+  at_rt : (a : Result VoterSet Refusal) → new (take p.count p.ids) (take p.count p.weights) ≡ a
+      → took (pairing p) Rt (fields Rt part) ≡ seated (opened (word (fields Rt part) 0) (word (fields Rt part) 4)) a
   unfolding took paired rooted
-  at_rt a e =
-      ap
-      (seated (new (take p.count p.ids) (take p.count p.weights)).voters (opened (word (fields Rt part) 0) (word (fields Rt part) 4)))
-      e
+  at_rt a e = ap (seated (opened (word (fields Rt part) 0) (word (fields Rt part) 4))) e
 
-  pub root_refused : (n : Refusal) → (new (take p.count p.ids) (take p.count p.weights)).answer ≡ Refused n
+  pub root_refused : (n : Refusal) → new (take p.count p.ids) (take p.count p.weights) ≡ Err n
       → run_from (pairing p) part ≡ ended (laid (pairing p)) 0 part (end.Refused n)
-  root_refused n e = from_ended (pairing p) (pairing p) 0 part part (end.Refused n) (ran_stops took (pairing p) part Rt n whole (at_rt (Refused n) e))
+  root_refused n e = from_ended (pairing p) (pairing p) 0 part part (end.Refused n) (ran_stops took (pairing p) part Rt n whole (at_rt (Err n) e))
 
-  pub root_goes : (new (take p.count p.ids) (take p.count p.weights)).answer ≡ Made
-      → run_from (pairing p) part
-      ≡ counted 1 (run_from
-      (growing (new (take p.count p.ids) (take p.count p.weights)).voters (opened (word (fields Rt part) 0) (word (fields Rt part) 4)))
-      (after Rt part))
-  root_goes e = from_counted (pairing p) _ 1 part (after Rt part) (ran_goes took (pairing p) _ part Rt whole (at_rt Made e))
+  pub root_goes : (v : VoterSet) → new (take p.count p.ids) (take p.count p.weights) ≡ Ok v
+      → run_from (pairing p) part ≡ counted 1 (run_from (growing v (opened (word (fields Rt part) 0) (word (fields Rt part) 4))) (after Rt part))
+  root_goes v e = from_counted (pairing p) _ 1 part (after Rt part) (ran_goes took (pairing p) _ part Rt whole (at_rt (Ok v) e))

@@ -2,7 +2,7 @@
 // of the bytes.
 #![tactic(auto)]
 
-ghost use Rattle.std.specs.Prelude.{◌≡◌, ◌+◌, ◌≤◌, length, take};
+ghost use Rattle.std.specs.Prelude.{◌≡◌, ◌&&◌, ◌+◌, ◌≤◌, length, take};
 ghost use Rattle.sizes.specs.Sizes.{PAIRS};
 ghost use Rattle.weights.specs.Weights.{most};
 ghost use Rattle.voter_set.specs.Voters.{new};
@@ -66,23 +66,20 @@ pub fn no_pairs() -> Pairs
 pub fn with_pairs(pairs: Pairs) -> Journal
     ensures { result ≡ laid (pairing pairs) }
 {
-    let blank = round::opened(0, round::nobody(), round::no_blocks(), 0);
     Journal {
         turn: Turn::Voters,
         pairs,
-        round: blank,
+        round: round::opened(0, round::nobody(), round::no_blocks(), 0),
     }
 }
 
 fn with_blocks(voters: VoterSet, table: BlockTable) -> Journal
     ensures { result ≡ laid (growing voters table) }
 {
-    let pairs = no_pairs();
-    let round = round::opened(0, voters, table, 0);
     Journal {
         turn: Turn::Blocks,
-        pairs,
-        round,
+        pairs: no_pairs(),
+        round: round::opened(0, voters, table, 0),
     }
 }
 
@@ -91,13 +88,11 @@ fn later(count: u64, at: usize, progress: Progress) -> Progress
     requires { (count + progress.count ≤ most) × (at + progress.at ≤ most) }
     ensures { result ≡ record { journal = progress.journal; count = count + progress.count; at = at + progress.at; end = progress.end } }
 {
-    let journal = progress.journal;
-    let end = progress.end;
     Progress {
-        journal,
+        journal: progress.journal,
         count: count + progress.count,
         at: at + progress.at,
-        end,
+        end: progress.end,
     }
 }
 
@@ -106,35 +101,30 @@ fn from_votes(round: Round, bytes: &[u8]) -> Progress
     requires { Kept (frame round) (held round) }
     ensures { (run_of result bytes.now ≡ run_from (voting (record { frame = frame round; held = held round })) bytes.now) × Within result bytes.now }
 {
-    let context = round.context;
-    let voters = context.voters;
-    let table = round.table;
-    let mut ids = table.ids;
-    let mut numbers = table.numbers;
-    let mut parents = table.parents;
+    let voters = round.context.voters;
     let graph = round.graph;
-    let rows_before = graph.rows;
+    let mut ids = round.table.ids;
+    let mut numbers = round.table.numbers;
+    let mut parents = round.table.parents;
     let mut used = graph.used;
     let mut above = graph.above;
-    let mut rows = graph_rows::words_of(rows_before);
+    let mut rows = graph_rows::words_of(graph.rows);
     let mut order = graph.order;
     let mut heads = graph.heads;
-    let votes = round.votes;
-    let mut counts = votes.counts;
-    let mut first_block = votes.first_block;
-    let mut first_signature = votes.first_signature;
-    let mut second_target = votes.second_target;
-    let mut second_number = votes.second_number;
-    let mut second_signature = votes.second_signature;
-    let history = round.history;
-    let mut entries = history.entries;
-    let equivocations = context.equivocations;
+    let mut counts = round.votes.counts;
+    let mut first_block = round.votes.first_block;
+    let mut first_signature = round.votes.first_signature;
+    let mut second_target = round.votes.second_target;
+    let mut second_number = round.votes.second_number;
+    let mut second_signature = round.votes.second_signature;
+    let mut entries = round.history.entries;
+    let equivocations = round.context.equivocations;
     let heard = round.heard;
     let answers = round.answers;
     let standing = Standing {
         listed: graph.listed,
         tips: graph.tips,
-        count: history.count,
+        count: round.history.count,
         equivocations,
         heard,
         answers,
@@ -149,7 +139,7 @@ fn from_votes(round: Round, bytes: &[u8]) -> Progress
         &mut ids,
         &mut numbers,
         &mut parents,
-        table.count,
+        round.table.count,
         graph.base,
         &mut used,
         &mut above,
@@ -167,44 +157,40 @@ fn from_votes(round: Round, bytes: &[u8]) -> Progress
         bytes,
     );
     let after = ran.standing;
+    let rows_after = graph_rows::rows_of(&rows);
     let equivocations_after = after.equivocations;
     let heard_after = after.heard;
     let answers_after = after.answers;
-    let end = ran.end;
-    let table_after = BlockTable {
-        ids,
-        numbers,
-        parents,
-        count: ran.blocks,
-    };
-    let rows_after = graph_rows::rows_of(&rows);
-    let graph_after = VoteGraph {
-        base: graph.base,
-        used,
-        above,
-        rows: rows_after,
-        order,
-        listed: after.listed,
-        heads,
-        tips: after.tips,
-    };
-    let votes_after = Votes {
-        counts,
-        first_block,
-        first_signature,
-        second_target,
-        second_number,
-        second_signature,
-    };
-    let round_after = Round {
+    let round = Round {
         number: round.number,
         context: Context {
             voters,
             equivocations: equivocations_after,
         },
-        table: table_after,
-        graph: graph_after,
-        votes: votes_after,
+        table: BlockTable {
+            ids,
+            numbers,
+            parents,
+            count: ran.blocks,
+        },
+        graph: VoteGraph {
+            base: graph.base,
+            used,
+            above,
+            rows: rows_after,
+            order,
+            listed: after.listed,
+            heads,
+            tips: after.tips,
+        },
+        votes: Votes {
+            counts,
+            first_block,
+            first_signature,
+            second_target,
+            second_number,
+            second_signature,
+        },
         history: History {
             entries,
             count: after.count,
@@ -214,16 +200,15 @@ fn from_votes(round: Round, bytes: &[u8]) -> Progress
         heard: heard_after,
         answers: answers_after,
     };
-    let pairs = no_pairs();
     Progress {
         journal: Journal {
             turn: Turn::Votes,
-            pairs,
-            round: round_after,
+            pairs: no_pairs(),
+            round,
         },
         count: ran.count,
         at: ran.at,
-        end,
+        end: ran.end,
     }
 }
 
@@ -262,21 +247,13 @@ fn from_blocks(voters: VoterSet, table: BlockTable, bytes: &[u8]) -> Progress
         parents,
         count: ran.blocks,
     };
-    let at = ran.at;
-    let end = ran.end;
-    match end {
-        End::Left => later(ran.count, at, open(voters, grown, &bytes[at..])),
-        End::Cut => Progress {
+    match ran.end {
+        End::Left => later(ran.count, ran.at, open(voters, grown, &bytes[ran.at..])),
+        end => Progress {
             journal: with_blocks(voters, grown),
             count: ran.count,
-            at,
-            end: End::Cut,
-        },
-        End::Refused(refusal) => Progress {
-            journal: with_blocks(voters, grown),
-            count: ran.count,
-            at,
-            end: End::Refused(refusal),
+            at: ran.at,
+            end,
         },
     }
 }
@@ -295,9 +272,7 @@ fn root(pairs: Pairs, part: &[u8]) -> Progress
     ensures { (run_of result part.now ≡ run_from (pairing pairs) part.now) × Within result part.now }
 {
     let fields = marks::fields(part, Mark::Rt);
-    let ids = pairs.ids;
-    let weights = pairs.weights;
-    match make(ids, weights, pairs.count) {
+    match make(pairs.ids, pairs.weights, pairs.count) {
         Err(refusal) => Progress {
             journal: with_pairs(pairs),
             count: 0,
@@ -324,32 +299,21 @@ pub fn from_voters(pairs: Pairs, bytes: &[u8]) -> Progress
         weights,
         count: ran.pairs,
     };
-    let at = ran.at;
-    let end = ran.end;
-    match end {
-        End::Left => later(ran.count, at, root(paired, &bytes[at..])),
-        End::Cut => Progress {
+    match ran.end {
+        End::Left => later(ran.count, ran.at, root(paired, &bytes[ran.at..])),
+        end => Progress {
             journal: with_pairs(paired),
             count: ran.count,
-            at,
-            end: End::Cut,
-        },
-        End::Refused(refusal) => Progress {
-            journal: with_pairs(paired),
-            count: ran.count,
-            at,
-            end: End::Refused(refusal),
+            at: ran.at,
+            end,
         },
     }
 }
 
-fn is_unset(index: Option<u64>) -> bool
-    ensures { result ≡ unset index }
+fn has_no_index(history: History) -> bool
+    ensures { result ≡ unset history.prevoted && unset history.precommitted }
 {
-    match index {
-        None => true,
-        Some(_) => false,
-    }
+    history.prevoted.is_none() && history.precommitted.is_none()
 }
 
 impl Journal {
@@ -357,31 +321,11 @@ impl Journal {
     pub fn is_journal(self) -> bool
         ensures { result ≡ stands self }
     {
-        let turn = self.turn;
-        let pairs = self.pairs;
         let round = self.round;
-        match turn {
-            Turn::Voters => pairs.count <= PAIRS,
-            Turn::Blocks => {
-                let context = round.context;
-                let voters = context.voters;
-                if !voters.is_good() {
-                    return false;
-                }
-                block_table::is_table(round.table)
-            }
-            Turn::Votes => {
-                if !round.is_round() {
-                    return false;
-                }
-                let history = round.history;
-                let prevoted = history.prevoted;
-                let precommitted = history.precommitted;
-                if !is_unset(prevoted) {
-                    return false;
-                }
-                is_unset(precommitted)
-            }
+        match self.turn {
+            Turn::Voters => self.pairs.count <= PAIRS,
+            Turn::Blocks => round.context.voters.is_good() && block_table::is_table(round.table),
+            Turn::Votes => round.is_round() && has_no_index(round.history),
         }
     }
 
@@ -390,18 +334,10 @@ impl Journal {
         requires { Stands Kept (told self) }
         ensures { (run_of result bytes.now ≡ run_from (told self) bytes.now) × Within result bytes.now }
     {
-        let turn = self.turn;
-        let pairs = self.pairs;
-        let round = self.round;
-        match turn {
-            Turn::Voters => from_voters(pairs, bytes),
-            Turn::Blocks => {
-                let context = round.context;
-                let voters = context.voters;
-                let table = round.table;
-                from_blocks(voters, table, bytes)
-            }
-            Turn::Votes => from_votes(round, bytes),
+        match self.turn {
+            Turn::Voters => from_voters(self.pairs, bytes),
+            Turn::Blocks => from_blocks(self.round.context.voters, self.round.table, bytes),
+            Turn::Votes => from_votes(self.round, bytes),
         }
     }
 }

@@ -10,8 +10,6 @@ use borrow.Author.Tests.{leb-false}
 use Rattle.sizes.specs.Sizes.{PAIRS}
 use Rattle.weights.specs.Weights.{most}
 use Rattle.voter_set.specs.declared.VoterSet.{VoterSet}
-use Rattle.voter_set.specs.declared.Answer.{Answer}
-use Rattle.voter_set.specs.declared.Answer.TheVariants.{Made, Refused}
 use Rattle.voter_set.specs.Good.{Good}
 use Rattle.voter_set.specs.Voters.{new}
 use Rattle.voter_laws.proofs.Made.{made_fit, made_total, new_good}
@@ -120,7 +118,7 @@ module _ (P : Frame → Held → Type 0)
 
   rooted_stands : (p : Pairs) (fs : List ℕ) → Then (Stands P) (rooted p fs)
   unfolding rooted
-  rooted_stands p fs = go (new ids weights).answer refl
+  rooted_stands p fs = go (new ids weights) refl
     where
       ids : List ℕ
       ids = take p.count p.ids
@@ -128,12 +126,11 @@ module _ (P : Frame → Held → Type 0)
       weights : List ℕ
       weights = take p.count p.weights
 
-      fits : (new ids weights).answer ≡ Made → (new ids weights).voters.total ≤ most
-      fits m = subst (λ (n : ℕ). n ≤ most) (sym (made_total ids weights m)) (made_fit ids weights m).fits
-
-      go : (a : Answer) → (new ids weights).answer ≡ a → Then (Stands P) (seated (new ids weights).voters (opened (word fs 0) (word fs 4)) a)
-      go Made m = (new_good ids weights, fits m, opened_shaped (word fs 0) (word fs 4))
-      go (Refused n) m = tt
+      go : (a : Result VoterSet Refusal) → new ids weights ≡ a → Then (Stands P) (seated (opened (word fs 0) (word fs 4)) a)
+      go (Ok v) m =
+          let fits : v.total ≤ most = subst (λ (n : ℕ). n ≤ most) (sym (made_total ids weights m)) (made_fit ids weights m).fits in
+          (new_good ids weights m, fits, opened_shaped (word fs 0) (word fs 4))
+      go (Err n) m = tt
 
   based_stands : (v : VoterSet) (t : BlockTable) → Good v → v.total ≤ most → Shaped t → (fs : List ℕ) → Then (Stands P) (based v t fs)
   unfolding based

@@ -1,5 +1,5 @@
 use native.Mathlib.Omega.{arith}
-use Rattle.journal.proofs.Done.{grown_cut, grown_refused, grown_ready, grown_done, later_fits, later_within}
+use Rattle.journal.proofs.Done.{grown_over, grown_ready, grown_done, later_fits, later_within}
 use Rattle.journal.proofs.from_blocks.Goals as goal
 
 pub open-requires : goal.open-requires
@@ -14,14 +14,8 @@ returns-in-Left c = (
   later_within _ _ c.args.bytes.now c.run-ran.ensures.blocks_bound.1 c.run-ran.ensures.blocks_bound.2 c.before.«open».result c.before.«open».ensures.1.0 c.before.«open».ensures.1.1 _ c.later.ensures,
 )
 
-pub returns-in-Cut : goal.returns-in-Cut
-returns-in-Cut c = (
-  grown_cut _ _ c.requires _ _ c.run-ran.result.at _ _ c.run-ran.ensures.fact c.in-Cut.is _ c.with_blocks.ensures,
-  (c.run-ran.ensures.blocks_bound.2, c.run-ran.ensures.blocks_bound.1),
-)
-
-pub returns-in-Refused : goal.returns-in-Refused
-returns-in-Refused c = (
-  grown_refused _ _ c.requires _ _ c.run-ran.result.at _ _ c.run-ran.ensures.fact _ c.in-Refused.is _ c.with_blocks-in-Refused.ensures,
+pub returns-in_default : goal.returns-in_default
+returns-in_default c = (
+  grown_over _ _ c.requires _ _ c.run-ran.result.at _ _ c.run-ran.ensures.fact c.in_default.not-Left _ c.with_blocks.ensures,
   (c.run-ran.ensures.blocks_bound.2, c.run-ran.ensures.blocks_bound.1),
 )

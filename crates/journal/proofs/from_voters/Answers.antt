@@ -1,5 +1,5 @@
 use native.Mathlib.Omega.{arith}
-use Rattle.journal.proofs.Done.{paired_cut, paired_refused, paired_read, paired_done, later_fits, later_within}
+use Rattle.journal.proofs.Done.{paired_over, paired_read, paired_done, later_fits, later_within}
 use Rattle.journal.proofs.from_voters.Goals as goal
 
 pub root-requires : goal.root-requires
@@ -14,14 +14,8 @@ returns-in-Left c = (
   later_within _ _ c.args.bytes.now c.run-ran.ensures.pairs_bound.1 c.run-ran.ensures.pairs_bound.2 c.root.result c.root.ensures.1.0 c.root.ensures.1.1 _ c.later.ensures,
 )
 
-pub returns-in-Cut : goal.returns-in-Cut
-returns-in-Cut c = (
-  paired_cut _ c.requires _ _ c.run-ran.result.at _ _ c.run-ran.ensures.fact c.in-Cut.is _ c.with_pairs.ensures,
-  (c.run-ran.ensures.pairs_bound.2, c.run-ran.ensures.pairs_bound.1),
-)
-
-pub returns-in-Refused : goal.returns-in-Refused
-returns-in-Refused c = (
-  paired_refused _ c.requires _ _ c.run-ran.result.at _ _ c.run-ran.ensures.fact _ c.in-Refused.is _ c.with_pairs-in-Refused.ensures,
+pub returns-in_default : goal.returns-in_default
+returns-in_default c = (
+  paired_over _ c.requires _ _ c.run-ran.result.at _ _ c.run-ran.ensures.fact c.in_default.not-Left _ c.with_pairs.ensures,
   (c.run-ran.ensures.pairs_bound.2, c.run-ran.ensures.pairs_bound.1),
 )

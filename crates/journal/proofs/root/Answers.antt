@@ -22,19 +22,19 @@ pub slice_bounds-from_blocks-count : goal.slice_bounds-from_blocks-count
 slice_bounds-from_blocks-count c = omega (arith, (whole_means _ _ c.requires.1).1)
 
 pub from_blocks-requires : goal.from_blocks-requires
-from_blocks-requires c = rt_ready c.args.pairs _ c.requires.1 _ c.fields-fields.ensures _ c.make-made.ensures c.in-Ok.is _ _ c.word.ensures.0 c.word-in-Ok.ensures.0 _ c.new-table.ensures
+from_blocks-requires c = rt_ready c.args.pairs _ c.requires.1 _ c.fields-fields.ensures _ c.make.ensures _ c.in-Ok.is _ _ c.word.ensures.0 c.word-in-Ok.ensures.0 _ c.new-table.ensures
 
 pub later-requires : goal.later-requires
 later-requires c = later_fits 1 10 c.args.part.now (omega arith) (whole_means _ _ c.requires.1).1 c.from_blocks.result c.from_blocks.ensures.1.0 c.from_blocks.ensures.1.1 (omega (arith, c.well_formed.1.0))
 
 pub returns-in-Err : goal.returns-in-Err
 returns-in-Err c = (
-  rt_refused c.args.pairs _ c.requires.1 _ c.fields-fields.ensures _ c.make-made.ensures _ c.in-Err.is _ c.with_pairs.ensures,
+  rt_refused c.args.pairs _ c.requires.1 _ c.fields-fields.ensures _ c.make.ensures _ c.in-Err.is _ c.with_pairs.ensures,
   (omega arith, omega arith),
 )
 
 pub returns-in-Ok : goal.returns-in-Ok
 returns-in-Ok c = (
-  rt_done c.args.pairs _ c.requires.1 _ c.fields-fields.ensures _ c.make-made.ensures c.in-Ok.is _ _ c.word.ensures.0 c.word-in-Ok.ensures.0 _ c.new-table.ensures _ _ c.from_blocks.ensures.0 c.later.ensures,
+  rt_done c.args.pairs _ c.requires.1 _ c.fields-fields.ensures _ c.make.ensures _ c.in-Ok.is _ _ c.word.ensures.0 c.word-in-Ok.ensures.0 _ c.new-table.ensures _ _ c.from_blocks.ensures.0 c.later.ensures,
   later_within 1 10 c.args.part.now (omega arith) (whole_means _ _ c.requires.1).1 c.from_blocks.result c.from_blocks.ensures.1.0 c.from_blocks.ensures.1.1 _ c.later.ensures,
 )

@@ -1,4 +1,4 @@
 use Rattle.journal.proofs.with_blocks.Goals as goal
 
 pub returns : goal.returns
-returns c = rw (c.opened-round.ensures, c.no_pairs-pairs.ensures)
+returns c = rw (c.opened.ensures, c.no_pairs.ensures)
