@@ -34,6 +34,7 @@ use Rattle.round_laws.specs.Fits.{Fits}
 use Rattle.round_laws.proofs.Shaped.{shaped_kept, shaped_marked, kept_shaped}
 use Rattle.std.specs.Prelude.{Option, Some, None, Ok, Result, ⊤}
 use Rattle.refusals.specs.declared.Refusal.{Refusal}
+use Rattle.refusals.specs.declared.Refusal.TheVariants.{Misshapen, UnknownBase}
 use Rattle.round.specs.declared.After.{After}
 use Rattle.judging.specs.declared.ImportResult.{ImportResult}
 
@@ -62,7 +63,7 @@ module _ (number : ℕ) (voters : VoterSet) (table : BlockTable) where
   module _ (base : ℕ) where
     abbrev outcome : Bool → Bool → Option ℕ → (After (Result ⊤ Refusal))
     outcome a b p =
-        cond a (cond b (on_place p (λ k. record { answer = Ok tt; round = opened number voters table k }) (not_opened 10)) (not_opened 9)) (not_opened 9)
+        cond a (cond b (on_place p (λ k. record { answer = Ok tt; round = opened number voters table k }) (not_opened UnknownBase)) (not_opened Misshapen)) (not_opened Misshapen)
 
     abbrev Made : After (Result ⊤ Refusal) → Type 0
     Made x = (k : ℕ) × (good voters ≡ true) × T (tabled table) × Stands table base k × (x.round ≡ opened number voters table k)

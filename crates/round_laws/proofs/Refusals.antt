@@ -44,13 +44,13 @@ module _ (r : Round) where
       (λ e u. ap (λ (h : Held). with_held r h) (import_refused (frame r) phase signer p (held r) u) ∙ same_held) (λ e u. refl)
 
   -- a block that is refused
-  pub add_equal : (id parent n : ℕ) → (add_block id parent r).answer ≡ Err n → (add_block id parent r).round ≡ r
+  pub add_equal : (id parent : ℕ) (n : Refusal) → (add_block id parent r).answer ≡ Err n → (add_block id parent r).round ≡ r
   unfolding add_block
   add_equal id parent n =
       on_test (λ (x : After (Result ℕ Refusal)). x.answer ≡ Err n → x.round ≡ r) (shaped r) (grown r (step r.table id parent)) _
       (λ e q. ap (λ (t : BlockTable). with_table r t) (step_refused r.table (graph_kept r (T_true e)).table id parent n q)) (λ e q. refl)
 
-  pub ghost_equal : (n : ℕ) → (precommit_ghost r).answer ≡ Err n → (precommit_ghost r).round ≡ r
+  pub ghost_equal : (n : Refusal) → (precommit_ghost r).answer ≡ Err n → (precommit_ghost r).round ≡ r
   unfolding precommit_ghost
   ghost_equal n =
       on_test (λ (x : After (Result (Option (ℕ × ℕ)) Refusal)). x.answer ≡ Err n → x.round ≡ r) (shaped r) (with_sought r (sought r)) _ (λ e. go (sought r)) (λ e q. refl)
@@ -59,7 +59,7 @@ module _ (r : Round) where
       go (Some b) q = absurd (let z : ◌≡◌ {A = ℕ} 0 1 = cc in omega arith)
       go None q = absurd (let z : ◌≡◌ {A = ℕ} 0 1 = cc in omega arith)
 
-  pub index_equal : (phase : Phase) (n : ℕ) → (set_index phase r).answer ≡ Err n → (set_index phase r).round ≡ r
+  pub index_equal : (phase : Phase) (n : Refusal) → (set_index phase r).answer ≡ Err n → (set_index phase r).round ≡ r
   unfolding set_index
   index_equal phase n =
       on_test (λ (x : After (Result ⊤ Refusal)). x.answer ≡ Err n → x.round ≡ r) (shaped r) _ _
