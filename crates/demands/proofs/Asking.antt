@@ -17,37 +17,45 @@ use Rattle.nodes.specs.Nodes.{col}
 use Rattle.records.proofs.Bytes.{length_vote}
 use Rattle.round.specs.declared.Round.{Round}
 use Rattle.round.specs.Shape.{shaped}
-use Rattle.round.specs.Ask.{refused, entries_of, records, listed, votes_of, historical_votes, finalizing, finalizing_precommits}
+use Rattle.round.specs.Ask.{told, refused, entries_of, records, listed, votes_of, historical_votes, finalizing, finalizing_precommits}
 use Rattle.round_laws.proofs.Keeps.{on_true}
 use Rattle.round_laws.proofs.Refusals.{on_test}
 use Rattle.two_views.specs.Views.{agree, views}
 use Rattle.two_views.proofs.Agreements.{agree_means, means_agree}
 use Rattle.two_views.proofs.Called.{views_told, views_unlike, views_misshaped}
-use Rattle.demands.specs.Refusals.{by_list, by_views}
 use Rattle.demands.specs.First.{Keeps, Exactly, Nine, misshaped, ListDue, too_short, FinalizingDue, none_final, ViewsDue, one_misshaped, other_misshaped, unlike, Reads, Lists}
-use Rattle.std.specs.Prelude.{Option, Some, None, Ok, Err}
+use Rattle.std.specs.Prelude.{Option, Some, None, Result, Ok, Err}
+use Rattle.refusals.specs.declared.Refusal.{Refusal}
 use Rattle.refusals.specs.declared.Refusal.TheVariants.{ShortBuffer, Misshapen}
 
 pub no_number : {n : ℕ} → None ≡ Some n → ⊥
 no_number e = let z : ◌≡◌ {A = ℕ} 0 1 = cc in omega arith
 
-pub number_is : {m n : ℕ} → Some m ≡ Some n → m ≡ n
-number_is e = cc
+pub not_err : {A : Type 0} {x : A} {e : Refusal} → ◌≡◌ {A = Result A Refusal} (Ok x) (Err e) → ⊥
+not_err q = let z : ◌≡◌ {A = ℕ} 0 1 = cc in omega arith
 
-module _ (r : Round) {A : Type 0} (number : A → Option ℕ) (x y : A) (quiet : number x ≡ None) (nine : number y ≡ Some 9) where
-  pub nine_exactly : Exactly (number (cond (shaped r) x y)) (Nine r)
+pub err_is : {A : Type 0} {d e : Refusal} → ◌≡◌ {A = Result A Refusal} (Err d) (Err e) → d ≡ e
+err_is q = cc
+
+module _ (r : Round) {A B : Type 0} (answer : B → Result A Refusal) (a : A) (x y : B) (told : answer x ≡ Ok a) (nine : answer y ≡ Err Misshapen) where
+  pub nine_exactly : Exactly (answer (cond (shaped r) x y)) (Nine r)
   nine_exactly n = (to, fro n)
     where
-      to : number (cond (shaped r) x y) ≡ Some n → Nine r n
+      to : answer (cond (shaped r) x y) ≡ Err n → Nine r n
       to =
-          on_test (λ (z : A). number z ≡ Some n → Nine r n) (shaped r) x y (λ e q. absurd (no_number (sym quiet ∙ q)))
-          (λ e q. subst (Nine r) (number_is (sym nine ∙ q)) (misshaped e))
+          on_test (λ (z : B). answer z ≡ Err n → Nine r n) (shaped r) x y (λ e q. absurd (not_err (sym told ∙ q)))
+          (λ e q. subst (Nine r) (err_is (sym nine ∙ q)) (misshaped e))
 
-      fro : (n : ℕ) → Nine r n → number (cond (shaped r) x y) ≡ Some n
+      fro : (n : Refusal) → Nine r n → answer (cond (shaped r) x y) ≡ Err n
       fro _ (misshaped e) = rw e nine
 
-  pub reads : Reads r number (cond (shaped r) x y) x
-  reads = record { refuses = nine_exactly; steps = λ t. on_true (λ (z : A). z ≡ x) (shaped r) x y t refl }
+-- a call that reads tells what it tells, or 9
+pub reads : (r : Round) {A : Type 0} (x : A) → Reads r (told r x) x
+reads r {A} x =
+    record {
+      refuses = nine_exactly r (λ (z : Result A Refusal). z) x (Ok x) (Err Misshapen) refl refl;
+      steps = λ t. on_true (λ (z : Result A Refusal). z ≡ Ok x) (shaped r) (Ok x) (Err Misshapen) t refl;
+    }
 
 -- what stands after the last record stays
 abbrev Rest : List ℕ → Lent → Type 0
@@ -60,7 +68,7 @@ module _ (f : ℕ → List ℕ) (entries out : List ℕ) where
   written_short h = rw (lt-ltb (length out) (22 * length entries) h)
 
   abbrev ToldShort : Lent → Type 0
-  ToldShort x = (n : ℕ) → by_list x.answer ≡ Some n → (n ≡ 14) × (length out < 22 * length entries) × (x.bytes ≡ out)
+  ToldShort x = (n : Refusal) → x.answer ≡ Err n → (n ≡ ShortBuffer) × (length out < 22 * length entries) × (x.bytes ≡ out)
 
   module _ (long : (e : ℕ) → length (f e) ≡ 22) where
     row_length : (es : List ℕ) → length (in_a_row f es) ≡ 22 * length es
@@ -83,8 +91,8 @@ module _ (f : ℕ → List ℕ) (entries out : List ℕ) where
   written_told : ToldShort (written f entries out)
   unfolding written
   written_told =
-      on_test ToldShort (ltb (length out) (22 * length entries)) _ _ (λ e n q. (sym (number_is q), ltb→lt _ _ (T_true e), refl))
-      (λ e n q. absurd (no_number q))
+      on_test ToldShort (ltb (length out) (22 * length entries)) _ _ (λ e n q. (sym (err_is q), ltb→lt _ _ (T_true e), refl))
+      (λ e n q. absurd (not_err q))
 
 module _ (r : Round) (out : List ℕ) where
   abbrev listing : (ℕ → List ℕ) → List ℕ → Lent
@@ -94,19 +102,19 @@ module _ (r : Round) (out : List ℕ) where
   lists f long entries =
       record {
         refuses = λ n. (to n, fro n);
-        untouched = λ n. on_test (λ (z : Lent). by_list z.answer ≡ Some n → z.bytes ≡ out) (shaped r) _ _ (λ e q. (written_told f entries out n q).2) (λ e q. refl);
+        untouched = λ n. on_test (λ (z : Lent). z.answer ≡ Err n → z.bytes ≡ out) (shaped r) _ _ (λ e q. (written_told f entries out n q).2) (λ e q. refl);
         rest = on_test (Rest out) (shaped r) _ _ (λ e. written_rest f entries out long)
             (λ e n q. absurd (let z : ◌≡◌ {A = ℕ} 0 1 = cc in omega arith));
         steps = λ t. on_true (λ (z : Lent). z ≡ written f entries out) (shaped r) _ _ t refl;
       }
     where
-      to : (n : ℕ) → by_list (listing f entries).answer ≡ Some n → ListDue r entries out n
+      to : (n : Refusal) → (listing f entries).answer ≡ Err n → ListDue r entries out n
       to n =
-          on_test (λ (z : Lent). by_list z.answer ≡ Some n → ListDue r entries out n) (shaped r) _ _
+          on_test (λ (z : Lent). z.answer ≡ Err n → ListDue r entries out n) (shaped r) _ _
           (λ e q. let w = written_told f entries out n q in subst (ListDue r entries out) (sym w.0) (too_short (T_true e) w.1))
-          (λ e q. subst (ListDue r entries out) (number_is q) (misshaped e))
+          (λ e q. subst (ListDue r entries out) (err_is q) (misshaped e))
 
-      fro : (n : ℕ) → ListDue r entries out n → by_list (listing f entries).answer ≡ Some n
+      fro : (n : Refusal) → ListDue r entries out n → (listing f entries).answer ≡ Err n
       fro _ (misshaped e) = rw e
       fro _ (too_short t h) = rw (true_T (shaped r) t, written_short f entries out h)
 
@@ -129,14 +137,14 @@ module _ (r : Round) (out : List ℕ) where
 
   -- what a finalizing list refuses and leaves
   abbrev FinalDue : Lent → Type 0
-  FinalDue x = (n : ℕ) → by_list x.answer ≡ Some n → FinalizingDue r out n × (x.bytes ≡ out)
+  FinalDue x = (n : Refusal) → x.answer ≡ Err n → FinalizingDue r out n × (x.bytes ≡ out)
 
   final_told : Keeps r → (o : Option ℕ) → r.answers.finalized ≡ o → FinalDue (finalizing r out o)
   unfolding listed records
   final_told t (Some b) e n q =
       let w = written_told records_are (entries_of (wanted.Finalizing b) r) out n q in
       (subst (FinalizingDue r out) (sym w.0) (too_short t b e w.1), w.2)
-  final_told t None e n q = (subst (FinalizingDue r out) (number_is q) (none_final t e), refl)
+  final_told t None e n q = (subst (FinalizingDue r out) (err_is q) (none_final t e), refl)
 
   final_rest : (o : Option ℕ) → Rest out (finalizing r out o)
   unfolding listed records
@@ -157,9 +165,9 @@ module _ (r : Round) (out : List ℕ) where
       all : FinalDue (cond (shaped r) (finalizing r out r.answers.finalized) (refused Misshapen out))
       all =
           on_test FinalDue (shaped r) _ _ (λ e. final_told (T_true e) r.answers.finalized refl)
-          (λ e n q. (subst (FinalizingDue r out) (number_is q) (misshaped e), refl))
+          (λ e n q. (subst (FinalizingDue r out) (err_is q) (misshaped e), refl))
 
-      fro : (n : ℕ) → FinalizingDue r out n → by_list (cond (shaped r) (finalizing r out r.answers.finalized) (refused Misshapen out)).answer ≡ Some n
+      fro : (n : Refusal) → FinalizingDue r out n → (cond (shaped r) (finalizing r out r.answers.finalized) (refused Misshapen out)).answer ≡ Err n
       fro _ (misshaped e) = rw e
       fro _ (none_final t e) = rw (true_T (shaped r) t, e)
       fro _ (too_short t b e h) =
@@ -171,22 +179,22 @@ module _ (r : Round) (out : List ℕ) where
 
 -- two views
 module _ (a b : Round) where
-  pub views_exactly : Exactly (by_views (views a b)) (ViewsDue a b)
+  pub views_exactly : Exactly (views a b) (ViewsDue a b)
   views_exactly n = (to (dec_T (shaped a)) (dec_T (shaped b)) (dec_T (agree a b)), fro n)
     where
-      to : Dec (T (shaped a)) → Dec (T (shaped b)) → Dec (T (agree a b)) → by_views (views a b) ≡ Some n → ViewsDue a b n
+      to : Dec (T (shaped a)) → Dec (T (shaped b)) → Dec (T (agree a b)) → views a b ≡ Err n → ViewsDue a b n
       to (no s) d w q =
           let e = views_misshaped a b (λ x y. s x) in
-          subst (ViewsDue a b) (number_is (sym (ap by_views e) ∙ q)) (one_misshaped (false_not (shaped a) s))
+          subst (ViewsDue a b) (err_is (sym e ∙ q)) (one_misshaped (false_not (shaped a) s))
       to (yes s) (no t) w q =
           let e = views_misshaped a b (λ x y. t y) in
-          subst (ViewsDue a b) (number_is (sym (ap by_views e) ∙ q)) (other_misshaped (false_not (shaped b) t))
-      to (yes s) (yes t) (yes w) q = absurd (no_number (sym (ap by_views (views_told a b s t (agree_means a b w))) ∙ q))
+          subst (ViewsDue a b) (err_is (sym e ∙ q)) (other_misshaped (false_not (shaped b) t))
+      to (yes s) (yes t) (yes w) q = absurd (not_err (sym (views_told a b s t (agree_means a b w)) ∙ q))
       to (yes s) (yes t) (no w) q =
           let e = views_unlike a b s t (λ o. w (means_agree a b o)) in
-          subst (ViewsDue a b) (number_is (sym (ap by_views e) ∙ q)) (unlike s t (λ o. w (means_agree a b o)))
+          subst (ViewsDue a b) (err_is (sym e ∙ q)) (unlike s t (λ o. w (means_agree a b o)))
 
-      fro : (n : ℕ) → ViewsDue a b n → by_views (views a b) ≡ Some n
-      fro _ (one_misshaped e) = ap by_views (views_misshaped a b (λ x y. true_false (true_T _ x) e))
-      fro _ (other_misshaped e) = ap by_views (views_misshaped a b (λ x y. true_false (true_T _ y) e))
-      fro _ (unlike s t f) = ap by_views (views_unlike a b s t f)
+      fro : (n : Refusal) → ViewsDue a b n → views a b ≡ Err n
+      fro _ (one_misshaped e) = views_misshaped a b (λ x y. true_false (true_T _ x) e)
+      fro _ (other_misshaped e) = views_misshaped a b (λ x y. true_false (true_T _ y) e)
+      fro _ (unlike s t f) = views_unlike a b s t f

@@ -37,7 +37,7 @@ use Rattle.importing.specs.Import as parts
 use Rattle.importing.specs.Import.{Frame, Held, import, opened_held}
 use Rattle.round.specs.declared.Round.{Round}
 use Rattle.round.specs.Shape.{frame, held}
-use Rattle.round.specs.Calls.{opened, new}
+use Rattle.round.specs.Calls.{nobody, opened, new}
 use Rattle.round.specs.Ask as ask
 use Rattle.round_laws.specs.Later.{Later, here, Reached, answers_of}
 use Rattle.round_laws.proofs.Keeps.{opened_again, new_shaped}
@@ -48,10 +48,15 @@ use Rattle.demands.specs.Third.{Beyond}
 use Rattle.demands.proofs.Shown.{estimate_shown, completable_shown}
 use Rattle.demands.proofs.Meant.{keeps}
 use Rattle.demands.proofs.Ballots.{Ballot, after, taken, after_later, Became, after_becomes, told_of, twice_weight, became_told, became_few}
-use Rattle.std.specs.Prelude.{Option, Some, Ok}
+use Rattle.std.specs.Prelude.{Option, Some, Result, Ok, Err}
+use Rattle.refusals.specs.declared.Refusal.{Refusal}
+
+abbrev pub made : Result VoterSet Refusal → VoterSet
+made (Ok v) = v
+made (Err e) = nobody
 
 abbrev pub four : VoterSet
-four = (set.new (1 ∷ 2 ∷ 3 ∷ 4 ∷ []) (1 ∷ 1 ∷ 1 ∷ 1 ∷ [])).voters
+four = made (set.new (1 ∷ 2 ∷ 3 ∷ 4 ∷ []) (1 ∷ 1 ∷ 1 ∷ 1 ∷ []))
 
 abbrev pub tree : BlockTable
 tree = (blocks.add (blocks.add (blocks.add (blocks.add (blocks.opened 10 0) 11 10).table 12 11).table 13 11).table 14 12).table
@@ -154,8 +159,8 @@ unfolding
     step blocks.add
 named r e =
     subst (λ (f : Frame).
-    (Ok (Some ((col f.table.ids 1), (col f.table.numbers 1))) ≡ Ok (Some (11, 1)))
-    × (Ok (Some ((col f.table.ids 2), (col f.table.numbers 2))) ≡ Ok (Some (12, 2)))) (sym e) (refl, refl)
+    ◌≡◌ {A = Result (Option (ℕ × ℕ)) Refusal} (Ok (Some (col f.table.ids 1, col f.table.numbers 1))) (Ok (Some (11, 1)))
+    × ◌≡◌ {A = Result (Option (ℕ × ℕ)) Refusal} (Ok (Some (col f.table.ids 2, col f.table.numbers 2))) (Ok (Some (12, 2)))) (sym e) (refl, refl)
 
 stands : (f : Frame) → f ≡ stage → Stands f.table 11 1 × Stands f.table 12 2 × T (below (col f.table.parents) 1 2)
 unfolding
@@ -182,9 +187,8 @@ premise_needed =
       reached = reached;
       calls = calls;
       above = λ few. omega (arith, became_few later stage now is.0 is.1 Precommit few, totals, computed.4);
-      was_completable =
-          completable_shown earlier (keeps earlier reached) ∙ ap (λ (x : Told). cond x.completable (Ok true) (Ok false)) told_then;
-      not_completable = completable_shown later keeps_later ∙ ap (λ (x : Told). cond x.completable (Ok true) (Ok false)) told_now;
+      was_completable = completable_shown earlier (keeps earlier reached) ∙ ap (λ (x : Told). Ok x.completable) told_then;
+      not_completable = completable_shown later keeps_later ∙ ap (λ (x : Told). Ok x.completable) told_now;
       was_estimate = estimate_then;
       estimate = estimate_now;
       away = record {

@@ -35,18 +35,24 @@ use Rattle.demands.proofs.Asking.{no_number}
 use Rattle.demands.proofs.Shown.{finalized_shown}
 use Rattle.demands.proofs.Meant.{keeps, kept, whole}
 use Rattle.demands.proofs.Lasting.{silent, told_by, In, seat_in}
-use Rattle.std.specs.Prelude.{Option, Some, None, Ok, Err}
+use Rattle.std.specs.Prelude.{Option, Some, None, Result, Ok, Err}
+use Rattle.refusals.specs.declared.Refusal.{Refusal}
 
-no_block : {id n : ℕ} → (Ok None) ≡ Ok (Some (id, n)) → ⊥
+no_block : {id n : ℕ} → ◌≡◌ {A = Result (Option (ℕ × ℕ)) Refusal} (Ok None) (Ok (Some (id, n))) → ⊥
 no_block e = let z : ◌≡◌ {A = ℕ} 0 1 = cc in omega arith
 
-block_id : {id n i m : ℕ} → Ok (Some (id, n)) ≡ Ok (Some (i, m)) → id ≡ i
-block_id e = cc
+abbrev id_of : Result (Option (ℕ × ℕ)) Refusal → ℕ
+id_of (Ok (Some (id, n))) = id
+id_of (Ok None) = 0
+id_of (Err e) = 0
 
-no_weight : {n k : ℕ} → Err n ≡ Ok k → ⊥
-no_weight e = let z : ◌≡◌ {A = ℕ} 0 1 = cc in omega arith
+block_id : {id n i m : ℕ} → ◌≡◌ {A = Result (Option (ℕ × ℕ)) Refusal} (Ok (Some (id, n))) (Ok (Some (i, m))) → id ≡ i
+block_id e = ap id_of e
 
-weight_is : {n k : ℕ} → Ok n ≡ Ok k → n ≡ k
+no_weight : {e : Refusal} {k : ℕ} → ◌≡◌ {A = Result ℕ Refusal} (Err e) (Ok k) → ⊥
+no_weight q = let z : ◌≡◌ {A = ℕ} 0 1 = cc in omega arith
+
+weight_is : {n k : ℕ} → ◌≡◌ {A = Result ℕ Refusal} (Ok n) (Ok k) → n ≡ k
 weight_is e = cc
 
 -- what is told as final from any GHOST has weight T or more

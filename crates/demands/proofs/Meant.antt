@@ -175,7 +175,7 @@ module _ (r : Round) (reached : Reached r) where
                 ghost_shown r keeps ∙ ap (shown r) n.0,
                 finalized_shown r keeps ∙ ap (shown r) n.1,
                 estimate_shown r keeps ∙ ap (shown r) n.2,
-                completable_shown r keeps ∙ ap (λ (b : Bool). cond b (Ok true) (Ok false)) n.3,
+                completable_shown r keeps ∙ ap Ok n.3,
               );
           computed = told_meant;
         }

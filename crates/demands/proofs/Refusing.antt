@@ -32,78 +32,54 @@ use Rattle.round_laws.proofs.Shaped.{shaped_kept, kept_shaped, shaped_marked}
 use Rattle.round_laws.proofs.Keeps.{on_true, new_shaped, import_shaped, add_shaped, ghost_shaped, index_shaped}
 use Rattle.round_laws.proofs.Lasting.{reached_shaped}
 use Rattle.round_laws.proofs.Refusals.{on_test, import_equal, add_equal, ghost_equal, index_equal}
-use Rattle.demands.specs.Refusals.{by_done, by_block, by_vote, by_told, by_number, by_whether, by_heard, by_primary, by_state}
 use Rattle.demands.specs.First.{Keeps, Breaks, Nine, NewDue, voters_misshaped, table_misshaped, no_base, BlockDue, misshaped, by_table, Changes, Takes, Opens, First, ReachedKeeps, Demand1}
 use Rattle.two_views.proofs.Called.{views_told}
-use Rattle.demands.proofs.Asking.{no_number, number_is, nine_exactly, reads, votes_lists, history_lists, final_lists, views_exactly}
+use Rattle.demands.proofs.Asking.{not_err, err_is, nine_exactly, reads, votes_lists, history_lists, final_lists, views_exactly}
 use Rattle.demands.proofs.Voting.{rules, vote_exactly}
 use Rattle.demands.proofs.Recording.{vote_records}
 use Rattle.demands.proofs.Heard.{prevotes_counted, precommits_counted}
 use Rattle.std.specs.Prelude.{Option, Some, None, Result, Ok, Err, ⊤}
 use Rattle.refusals.specs.declared.Refusal.{Refusal}
-use Rattle.voter_info.specs.declared.VoterInfo.{VoterInfo}
+use Rattle.refusals.specs.declared.Refusal.TheVariants.{Misshapen, UnknownBase}
 use Rattle.round.specs.declared.After.{After}
 
--- a number is told by a refusal alone
-refused_done : (x : Result ⊤ Refusal) (n : ℕ) → by_done x ≡ Some n → x ≡ Err n
-refused_done (Ok tt) n e = absurd (no_number e)
-refused_done (Err m) n e = ap Err (number_is e)
-
-refused_block : (x : Result ℕ Refusal) (n : ℕ) → by_block x ≡ Some n → x ≡ Err n
-refused_block (Ok k) n e = absurd (no_number e)
-refused_block (Err m) n e = ap Err (number_is e)
-
-refused_told : (x : Result (Option (ℕ × ℕ)) Refusal) (n : ℕ) → by_told x ≡ Some n → x ≡ Err n
-refused_told (Ok (Some (id, k))) n e = absurd (no_number e)
-refused_told (Ok None) n e = absurd (no_number e)
-refused_told (Err m) n e = ap Err (number_is e)
-
-untaken : (x : Result ImportResult Refusal) (n : ℕ) → by_vote x ≡ Some n → Untaken x
-untaken (Ok vote.Outside) n e = tt
-untaken (Ok vote.Counted) n e = absurd (no_number e)
-untaken (Ok vote.Duplicated) n e = tt
-untaken (Ok (vote.Equivocated q)) n e = absurd (no_number e)
-untaken (Ok vote.Ignored) n e = tt
-untaken (Err m) n e = tt
-
-block_quiet : (r : Round) (o : Option ℕ) → by_told (block_of r.table.ids r.table.numbers o) ≡ None
-block_quiet r (Some b) = refl
-block_quiet r None = refl
+untaken : (x : Result ImportResult Refusal) (e : Refusal) → x ≡ Err e → Untaken x
+untaken x e q = subst Untaken (sym q) tt
 
 -- beside a refused `new` stands a round that every call refuses
-not_opened_breaks : (n : ℕ) → Breaks (not_opened n).round
+not_opened_breaks : (n : Refusal) → Breaks (not_opened n).round
 unfolding opened
 not_opened_breaks n = false_not (shaped (not_opened n).round) (λ t. omega (arith, (graph_kept (not_opened n).round t).table.rooted))
 
 module _ (number : ℕ) (voters : VoterSet) (table : BlockTable) (base : ℕ) where
   abbrev outcome : Bool → Bool → Option ℕ → (After (Result ⊤ Refusal))
   outcome a b p =
-      cond a (cond b (on_place p (λ k. record { answer = Ok tt; round = opened number voters table k }) (not_opened 10)) (not_opened 9)) (not_opened 9)
+      cond a (cond b (on_place p (λ k. record { answer = Ok tt; round = opened number voters table k }) (not_opened UnknownBase)) (not_opened Misshapen)) (not_opened Misshapen)
 
   -- a refusal that is due, and what stands beside it
-  abbrev Refusal : After (Result ⊤ Refusal) → Type 0
-  Refusal x = (n : ℕ) → by_done x.answer ≡ Some n → NewDue voters table base n × Breaks x.round
+  abbrev Refused : After (Result ⊤ Refusal) → Type 0
+  Refused x = (n : Refusal) → x.answer ≡ Err n → NewDue voters table base n × Breaks x.round
 
-  new_refusal : Refusal (new number voters table base)
+  new_refusal : Refused (new number voters table base)
   unfolding new
   new_refusal = go (good voters) refl (tabled table) refl (place_of table.ids table.count base) refl
     where
       go : (a : Bool) → good voters ≡ a → (b : Bool) → tabled table ≡ b → (p : Option ℕ) → place_of table.ids table.count base ≡ p
-          → Refusal (outcome a b p)
-      go true s true t (Some k) e n q = absurd (no_number q)
+          → Refused (outcome a b p)
+      go true s true t (Some k) e n q = absurd (not_err q)
       go true s true t None e n q = (
-        subst (NewDue voters table base) (number_is q) (no_base s (T_true t) (nothing_stands table (tabled_shaped table (T_true t)) base e)),
-        not_opened_breaks 10,
+        subst (NewDue voters table base) (err_is q) (no_base s (T_true t) (nothing_stands table (tabled_shaped table (T_true t)) base e)),
+        not_opened_breaks UnknownBase,
       )
-      go true s false t p e n q = (subst (NewDue voters table base) (number_is q) (table_misshaped t), not_opened_breaks 9)
-      go false s b t p e n q = (subst (NewDue voters table base) (number_is q) (voters_misshaped s), not_opened_breaks 9)
+      go true s false t p e n q = (subst (NewDue voters table base) (err_is q) (table_misshaped t), not_opened_breaks Misshapen)
+      go false s b t p e n q = (subst (NewDue voters table base) (err_is q) (voters_misshaped s), not_opened_breaks Misshapen)
 
-  refusal_new : (n : ℕ) → NewDue voters table base n → by_done (new number voters table base).answer ≡ Some n
+  refusal_new : (n : Refusal) → NewDue voters table base n → (new number voters table base).answer ≡ Err n
   unfolding new
   refusal_new _ (voters_misshaped e) = rw e
   refusal_new _ (table_misshaped e) = go (good voters)
     where
-      go : (a : Bool) → by_done (outcome a (tabled table) (place_of table.ids table.count base)).answer ≡ Some 9
+      go : (a : Bool) → (outcome a (tabled table) (place_of table.ids table.count base)).answer ≡ Err Misshapen
       go true = rw e
       go false = refl
   refusal_new _ (no_base s t f) = rw (s, true_T (tabled table) t, stands_nothing table (tabled_shaped table t) base f)
@@ -130,30 +106,29 @@ module _ (r : Round) where
   add_step t id parent = rw (true_T (tabled r.table) (shaped_tabled r.table (graph_kept r t).table))
 
   pub add_changes : (id parent : ℕ)
-      → Changes r (λ (x : After (Result ℕ Refusal)). by_block x.answer) (λ (x : After (Result ℕ Refusal)). x.round) (BlockDue r id parent) (add_block id parent r)
-      (grown r (step r.table id parent))
+      → Changes r (BlockDue r id parent) (add_block id parent r) (grown r (step r.table id parent))
   unfolding add_block
   add_changes id parent =
       record {
         refuses = λ n. (to n, fro n);
-        equal = λ n q. add_equal r id parent n (refused_block (add_block id parent r).answer n q);
+        equal = add_equal r id parent;
         steps = λ t. on_true (λ (x : After (Result ℕ Refusal)). x ≡ grown r (step r.table id parent)) (shaped r) _ _ t refl;
         keeps = λ fits t. add_shaped r fits t id parent;
       }
     where
-      to : (n : ℕ) → by_block (add_block id parent r).answer ≡ Some n → BlockDue r id parent n
+      to : (n : Refusal) → (add_block id parent r).answer ≡ Err n → BlockDue r id parent n
       to n =
-          on_test (λ (x : After (Result ℕ Refusal)). by_block x.answer ≡ Some n → BlockDue r id parent n) (shaped r) (grown r (step r.table id parent)) _
+          on_test (λ (x : After (Result ℕ Refusal)). x.answer ≡ Err n → BlockDue r id parent n) (shaped r) (grown r (step r.table id parent)) _
           (λ e q. by_table n (T_true e)
-          (subst (Due r.table id parent) (ap (λ (x : Added). x.answer) (add_step (T_true e) id parent) ∙ refused_block _ n q)
+          (subst (Due r.table id parent) (ap (λ (x : Added). x.answer) (add_step (T_true e) id parent) ∙ q)
           (answer_due r.table id parent)))
-          (λ e q. subst (BlockDue r id parent) (number_is q) (misshaped e))
+          (λ e q. subst (BlockDue r id parent) (err_is q) (misshaped e))
 
-      fro : (n : ℕ) → BlockDue r id parent n → by_block (add_block id parent r).answer ≡ Some n
+      fro : (n : Refusal) → BlockDue r id parent n → (add_block id parent r).answer ≡ Err n
       fro _ (misshaped e) = rw e
       fro _ (by_table n t d) =
-          on_true (λ (x : After (Result ℕ Refusal)). by_block x.answer ≡ Some n) (shaped r) (grown r (step r.table id parent)) _ t
-          (ap by_block (ap (λ (x : Added). x.answer) (sym (add_step t id parent)) ∙ due_answer r.table id parent (Err n) d))
+          on_true (λ (x : After (Result ℕ Refusal)). x.answer ≡ Err n) (shaped r) (grown r (step r.table id parent)) _ t
+          (ap (λ (x : Added). x.answer) (sym (add_step t id parent)) ∙ due_answer r.table id parent (Err n) d)
 
   -- a vote
   pub vote_takes : (phase : Phase) (signer : ℕ) (p : Pair) → Takes r phase signer p
@@ -169,40 +144,26 @@ module _ (r : Round) where
         promised = record { rule = rules r phase signer p; records = vote_records r phase signer p; equal = import_equal r phase signer p };
       }
 
-  pub ghost_changes :
-      Changes r (λ (x : After (Result (Option (ℕ × ℕ)) Refusal)). by_told x.answer) (λ (x : After (Result (Option (ℕ × ℕ)) Refusal)). x.round) (Nine r) (precommit_ghost r) (with_sought r (sought r))
+  pub ghost_changes : Changes r (Nine r) (precommit_ghost r) (with_sought r (sought r))
   unfolding precommit_ghost
   ghost_changes =
       record {
-        refuses = nine_exactly r (λ (x : After (Result (Option (ℕ × ℕ)) Refusal)). by_told x.answer) (with_sought r (sought r)) _ (block_quiet r (sought r)) refl;
-        equal = λ n q. ghost_equal r n (refused_told (precommit_ghost r).answer n q);
+        refuses = nine_exactly r (λ (x : After (Result (Option (ℕ × ℕ)) Refusal)). x.answer) (block_of r.table.ids r.table.numbers (sought r)) (with_sought r (sought r)) _ refl refl;
+        equal = ghost_equal r;
         steps = λ t. on_true (λ (x : After (Result (Option (ℕ × ℕ)) Refusal)). x ≡ with_sought r (sought r)) (shaped r) _ _ t refl;
         keeps = λ fits t. ghost_shaped r fits t;
       }
 
   pub index_changes : (phase : Phase)
-      → Changes r (λ (x : After (Result ⊤ Refusal)). by_done x.answer) (λ (x : After (Result ⊤ Refusal)). x.round) (Nine r) (set_index phase r)
-      (record { answer = Ok tt; round = with_history r (marked phase r.history) })
+      → Changes r (Nine r) (set_index phase r) (record { answer = Ok tt; round = with_history r (marked phase r.history) })
   unfolding set_index
   index_changes phase =
       record {
-        refuses = nine_exactly r (λ (x : After (Result ⊤ Refusal)). by_done x.answer) _ _ refl refl;
-        equal = λ n q. index_equal r phase n (refused_done (set_index phase r).answer n q);
+        refuses = nine_exactly r (λ (x : After (Result ⊤ Refusal)). x.answer) tt _ _ refl refl;
+        equal = index_equal r phase;
         steps = λ t. on_true (λ (x : After (Result ⊤ Refusal)). x ≡ record { answer = Ok tt; round = with_history r (marked phase r.history) }) (shaped r) _ _ t refl;
         keeps = λ fits t. index_shaped r fits t phase;
       }
-
-  index_quiet : (i : Option ℕ) → by_number (ask.index_number i) ≡ None
-  index_quiet (Some n) = refl
-  index_quiet None = refl
-
-  whether_quiet : (b : Bool) → by_whether (cond b (Ok true) (Ok false)) ≡ None
-  whether_quiet true = refl
-  whether_quiet false = refl
-
-  primary_quiet : (x : Option (ℕ × VoterInfo)) → by_primary (ask.primary_of x) ≡ None
-  primary_quiet (Some (id, info)) = refl
-  primary_quiet None = refl
 
   calls : First r
   unfolding ask.number ask.threshold ask.prevoted_index ask.precommitted_index ask.completable ask.estimate ask.finalized ask.base ask.prevote_participation ask.precommit_participation ask.primary_voter ask.state ask.voters
@@ -215,21 +176,21 @@ module _ (r : Round) where
         import_precommit = vote_takes Precommit;
         precommit_ghost = ghost_changes;
         set_index = index_changes;
-        number = reads r by_number _ _ refl refl;
-        threshold = reads r by_number _ _ refl refl;
-        prevoted_index = reads r by_number _ _ (index_quiet r.history.prevoted) refl;
-        precommitted_index = reads r by_number _ _ (index_quiet r.history.precommitted) refl;
-        completable = reads r by_whether _ _ (whether_quiet r.answers.completable) refl;
-        estimate = reads r by_told _ _ (block_quiet r r.answers.estimate) refl;
-        finalized = reads r by_told _ _ (block_quiet r r.answers.finalized) refl;
-        base = reads r by_told _ _ refl refl;
-        prevote_participation = reads r by_heard _ _ refl refl;
-        precommit_participation = reads r by_heard _ _ refl refl;
+        number = reads r _;
+        threshold = reads r _;
+        prevoted_index = reads r _;
+        precommitted_index = reads r _;
+        completable = reads r _;
+        estimate = reads r _;
+        finalized = reads r _;
+        base = reads r _;
+        prevote_participation = reads r _;
+        precommit_participation = reads r _;
         prevotes_heard = prevotes_counted r;
         precommits_heard = precommits_counted r;
-        primary_voter = reads r by_primary _ _ (primary_quiet (nth_mod r.context.voters r.number)) refl;
-        state = reads r by_state _ _ refl refl;
-        voters = reads r (λ (x : Result VoterSet Refusal). by_done x.answer) _ _ refl refl;
+        primary_voter = reads r _;
+        state = reads r _;
+        voters = reads r _;
         votes = λ phase out. votes_lists r out phase;
         historical_votes = history_lists r;
         finalizing_precommits = final_lists r;

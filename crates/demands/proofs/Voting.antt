@@ -30,9 +30,8 @@ use Rattle.round.specs.Shape.{frame, held, shaped}
 use Rattle.round.specs.Calls.{imported, import_vote}
 use Rattle.round.proofs.Steps.{graph_kept}
 use Rattle.two_views.proofs.Rounds.{voters_good}
-use Rattle.demands.specs.Refusals.{by_vote}
 use Rattle.demands.specs.First.{Keeps, Exactly, VoterAt, recorded_of, FirstVote, VoteDue, misshaped, unknown, wrong_number, off_the_base, Rule, refused, stranger, first, again, first_again, second_again, second, third}
-use Rattle.demands.proofs.Asking.{no_number, number_is}
+use Rattle.demands.proofs.Asking.{not_err, err_is}
 use Rattle.std.specs.Prelude.{Option, Some, None, Result, Ok, Err}
 use Rattle.refusals.specs.declared.Refusal.{Refusal}
 use Rattle.refusals.specs.declared.Refusal.TheVariants.{OffTheBase, UnknownTarget, WrongNumber, Misshapen}
@@ -121,7 +120,7 @@ module _ (r : Round) (phase : Phase) (signer : ℕ) (p : Pair) where
       twice_answer a b e false false q s = answered (verdicts.Nothing (Ok vote.Ignored)) (judged_by k v (recorded.Equivocated a b) e ∙ rw (q, s))
 
   -- the rule that holds gives the answer
-  due_refusal : (n : ℕ) → VoteDue r phase signer p n → (import_vote phase signer p r).answer ≡ Err n
+  due_refusal : (n : Refusal) → VoteDue r phase signer p n → (import_vote phase signer p r).answer ≡ Err n
   unfolding import_vote
   due_refusal _ (misshaped e) = rw e
   due_refusal _ (unknown f a) = first_answer f.keeps f.place f.voter f.silent _ (aimed_unknown f.keeps f.place a)
@@ -193,15 +192,15 @@ module _ (r : Round) (phase : Phase) (signer : ℕ) (p : Pair) where
   pub rules : (a : Result ImportResult Refusal) → ((import_vote phase signer p r).answer ≡ a) ↔ Rule r phase signer p a
   rules a = ((λ e. subst (Rule r phase signer p) e answer_rule), rule_answer a)
 
-  refusal_due : (a : Result ImportResult Refusal) → Rule r phase signer p a → (n : ℕ) → by_vote a ≡ Some n → VoteDue r phase signer p n
-  refusal_due _ (refused m d) n e = subst (VoteDue r phase signer p) (number_is e) d
-  refusal_due _ (stranger t f) n e = absurd (no_number e)
-  refusal_due _ (first f b s q h) n e = absurd (no_number e)
-  refusal_due _ (again t k v a q s) n e = absurd (no_number e)
-  refusal_due _ (first_again t k v a b q s) n e = absurd (no_number e)
-  refusal_due _ (second_again t k v a b q s u) n e = absurd (no_number e)
-  refusal_due _ (second t k v a q s) n e = absurd (no_number e)
-  refusal_due _ (third t k v a b q s u) n e = absurd (no_number e)
+  refusal_due : (a : Result ImportResult Refusal) → Rule r phase signer p a → (n : Refusal) → a ≡ Err n → VoteDue r phase signer p n
+  refusal_due _ (refused m d) n e = subst (VoteDue r phase signer p) (err_is e) d
+  refusal_due _ (stranger t f) n e = absurd (not_err e)
+  refusal_due _ (first f b s q h) n e = absurd (not_err e)
+  refusal_due _ (again t k v a q s) n e = absurd (not_err e)
+  refusal_due _ (first_again t k v a b q s) n e = absurd (not_err e)
+  refusal_due _ (second_again t k v a b q s u) n e = absurd (not_err e)
+  refusal_due _ (second t k v a q s) n e = absurd (not_err e)
+  refusal_due _ (third t k v a b q s u) n e = absurd (not_err e)
 
-  pub vote_exactly : Exactly (by_vote (import_vote phase signer p r).answer) (VoteDue r phase signer p)
-  vote_exactly n = (refusal_due _ answer_rule n, λ d. ap by_vote (due_refusal n d))
+  pub vote_exactly : Exactly (import_vote phase signer p r).answer (VoteDue r phase signer p)
+  vote_exactly n = (refusal_due _ answer_rule n, due_refusal n)

@@ -47,8 +47,8 @@ module _ (r : Round) (reached : Reached r) where
       ∙ start_voters
 
 pub made_weighs : MadeWeighs
-made_weighs r reached ids weights m e =
-    subst (λ (v : VoterSet). 0 < v.total) (sym (reached_voters r reached ∙ e))
+made_weighs r reached ids weights m =
+    subst (λ (v : VoterSet). 0 < v.total) (sym (reached_voters r reached))
     (let f = (made_fit ids weights m).some_weight in omega (arith, made_total ids weights m))
 
 -- no voter, and one block

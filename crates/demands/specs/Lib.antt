@@ -1,4 +1,3 @@
-pub mod Refusals
 pub mod First
 pub mod Second
 pub mod Third

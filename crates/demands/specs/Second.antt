@@ -82,6 +82,7 @@ pub record Second (r : Round) : Type 0 where
   -- `state` tells the same four
   pub state : (s : State) × (ask.state r ≡ Ok s)
       × (ask.finalized r ≡ Ok s.finalized) × (ask.estimate r ≡ Ok s.estimate) × (ask.completable r ≡ Ok s.completable)
+  pub yes_or_no : ask.completable r ≡ Ok r.answers.completable
   -- before g exists, all four are none or no
   pub before : ((g : ℕ) → IsGhost r g → ⊥)
       → (ghost_told (ask.state r) ≡ Ok None) × (ask.finalized r ≡ Ok None) × (ask.estimate r ≡ Ok None)
