@@ -1,5 +1,5 @@
 -- What slots tell of an id, how they are set, and how a placed block keeps them.
-use mathlib.Core.Bool.{Bool, true, false}
+use mathlib.Core.Bool.{true, false}
 use mathlib.Core.List.{List}
 use mathlib.Core.Logic.{◌≢◌}
 use mathlib.Core.Path.{◌≡◌, refl, sym, ap, subst, ◌∙◌}
@@ -14,7 +14,7 @@ use Rattle.columns.specs.Find.{find, contains}
 use Rattle.columns.proofs.Finds.{find_nothing, at_find, nothing_find, contains_find, contains_nothing}
 use Rattle.blocks.specs.declared.BlockTable.{BlockTable}
 use Rattle.blocks.specs.declared.Added.{Added}
-use Rattle.blocks.specs.Add.{place_of, refused, placed, append}
+use Rattle.blocks.specs.Add.{place_of, append}
 use Rattle.block_index.specs.Index.{slot, held, Slotted, Indexed, indexed, marked}
 use Rattle.std.specs.Prelude.{Option, Some, None, Result}
 use Rattle.refusals.specs.declared.Refusal.{Refusal}

@@ -12,12 +12,6 @@ ghost use Rattle.block_index.specs.Index.{slot, Indexed, indexed, marked};
 use refusals::Refusal;
 use sizes::BLOCKS;
 
-fn wide(place: u8) -> usize
-    ensures { result ≡ place }
-{
-    place as usize
-}
-
 fn slot(id: u32) -> usize
     ensures { result ≡ slot id }
 {
@@ -31,10 +25,8 @@ pub fn index(ids: &[u32; BLOCKS], slots: &mut [u8; 1024], count: usize)
     ensures slots_after { slots.new ≡ indexed ids.now count slots.old }
     ensures indexed { Indexed ids.now slots.new count }
 {
-    let mut left = count;
-    while 0 < left {
-        left = left - 1;
-        slots[slot(ids[left])] = left as u8;
+    for place in (0..count).rev() {
+        slots[slot(ids[place])] = place as u8;
     }
 }
 
@@ -45,7 +37,7 @@ pub fn place(ids: &[u32; BLOCKS], slots: &[u8; 1024], count: usize, id: u32) -> 
 {
     let own = slot(id);
     let held = slots[own];
-    let at = wide(held);
+    let at = usize::from(held);
     if count <= at {
         return None;
     }

@@ -6,7 +6,6 @@ use Prim.Native.Nat.{ℕ, ◌+◌, ◌≤◌}
 use lib.Dec.{eqb, ltb}
 use lib.ListN.{get_or}
 use borrow.Author.Tests.{lt-ltb, le-ltb}
-use Rattle.loops.specs.All.{all}
 use Rattle.loops.proofs.Tests.{T_true, true_T, in_left}
 use Rattle.loops.proofs.Alls.{all_intro, all_next}
 use Rattle.columns.specs.Blank.{blank}

@@ -1,20 +1,22 @@
 -- What `find` and `contains` mean.
 use mathlib.Core.Bool.{Bool, true, false, ◌||◌}
 use mathlib.Core.List.{List}
-use mathlib.Core.Path.{◌≡◌, refl, subst}
+use mathlib.Core.Path.{◌≡◌, refl, subst, sym, ◌∙◌}
 use mathlib.Core.Logic.{◌⊎◌, inl, inr}
 use Prim.Native.Nat.{ℕ, ◌+◌, ◌-◌, ◌≤◌, ◌<◌}
 use native.Mathlib.Omega.{arith}
 use lib.Dec.{T, eqb→eq}
-use lib.ListN.{length, get_or}
+use lib.ListN.{length, get_or, take, drop}
 use borrow.Author.Tests.{eq-eqb}
 use Rattle.loops.specs.Loop.{first}
 use Rattle.loops.specs.All.{any}
 use Rattle.loops.proofs.Tests.{T_true, true_T, false_not}
+use Rattle.loops.proofs.Loops.{first_hit, first_end}
 use Rattle.loops.proofs.Alls.{any_at, any_intro}
 use Rattle.loops.proofs.Firsts.{Least, first_cases, first_least, first_none, first_skip}
 use Rattle.columns.specs.Find.{used, is_at, find, contains}
 use Rattle.std.specs.Prelude.{Some, None}
+use Rattle.std.proofs.lemmas.List.{get_or-drop, get_or-take, length-drop, length-take}
 
 module _ (column : List ℕ) (count x : ℕ) where
   pub used_whole : count ≤ length column → used column count ≡ count
@@ -90,3 +92,32 @@ skip_eight column x n k h e =
   where
     never : any 8 (λ j. is_at column x (k + j)) ≡ true → ⊥
     never q = let z : ◌≡◌ {A = ℕ} 0 1 = cc in omega arith
+
+-- a search of a part of the column, from a place on
+module _ (column : List ℕ) (x from end : ℕ) (h : from ≤ end) (inside : end ≤ length column) where
+  abbrev pub part : List ℕ
+  part = take (end - from) (drop from column)
+
+  pub length_part : length part ≡ end - from
+  length_part = omega (arith, length-take (end - from) (drop from column), length-drop from column)
+
+  at_part : (j : ℕ) → j < end - from → get_or part j 0 ≡ get_or column (from + j) 0
+  at_part j l = get_or-take (end - from) (drop from column) j 0 l ∙ get_or-drop from column j 0
+
+  passed : (i : ℕ) → i ≤ end - from → ((j : ℕ) → j < i → get_or part j 0 ≡ x → ⊥) → (j : ℕ) → j < i → T (is_at column x (from + j)) → ⊥
+  passed i l before j q t = before j q (at_part j (omega arith) ∙ eqb→eq _ _ t)
+
+  pub part_found : (i : ℕ) → i < end - from → get_or part i 0 ≡ x → ((j : ℕ) → j < i → get_or part j 0 ≡ x → ⊥)
+      → first (is_at column x) Some None (end - from) from ≡ Some (from + i)
+  part_found i l e before =
+      first_skip (is_at column x) Some None i end from (omega arith) (passed i (omega arith) before)
+      ∙ first_hit (is_at column x) Some None end (from + i) (omega arith) (eq-eqb _ _ (sym (at_part i l) ∙ e))
+
+  pub part_nothing : ((j : ℕ) → j < end - from → get_or part j 0 ≡ x → ⊥) → first (is_at column x) Some None (end - from) from ≡ None
+  part_nothing none =
+      first_skip (is_at column x) Some None (end - from) end from (omega arith) (passed (end - from) (omega arith) none)
+      ∙ first_end (is_at column x) Some None end (from + (end - from)) (omega arith)
+
+-- a loop over the front
+pub at_front : (column : List ℕ) (end k : ℕ) → k < end → get_or (take end column) k 0 ≡ get_or column k 0
+at_front column end k h = get_or-take end column k 0 h

@@ -10,27 +10,28 @@ ghost use Rattle.columns.specs.Find.{used, is_at, find, contains};
 pub fn find(column: &[u32], count: usize, x: u32) -> Option<usize>
     ensures { result ≡ find column.now count x }
 {
-    let end = least(count, column.len());
+    let end = used(column, count);
     let from = skip(column, end, x);
-    find_from(column, from, end, x)
+    let at = column[from..end].iter().position(|y| *y == x)?;
+    Some(from + at)
 }
 
 // Whether x stands at a used place. Every place is looked at, which lets the compiler compare many at once.
 pub fn contains(column: &[u32], count: usize, x: u32) -> bool
     ensures { result ≡ contains column.now count x }
 {
-    let end = least(count, column.len());
+    let end = used(column, count);
     let mut seen = false;
-    for k in 0..end {
-        seen = (column[k] == x) | seen;
+    for y in &column[..end] {
+        seen = (*y == x) | seen;
     }
     seen
 }
 
-fn least(a: usize, b: usize) -> usize
-    ensures { result ≡ min a b }
+fn used(column: &[u32], count: usize) -> usize
+    ensures { result ≡ used column.now count }
 {
-    if a <= b { a } else { b }
+    count.min(column.len())
 }
 
 // Places that need not be searched, whole eights of them.
@@ -60,17 +61,4 @@ fn eight(column: &[u32], from: usize, x: u32) -> bool
                     | ((column[from + 3] == x)
                         | ((column[from + 2] == x)
                             | ((column[from + 1] == x) | (column[from] == x)))))))
-}
-
-// The search from a place on, one place at a time.
-fn find_from(column: &[u32], from: usize, end: usize, x: u32) -> Option<usize>
-    requires { end ≤ length column.now }
-    ensures { result ≡ first (is_at column.now x) Some None (end - from) from }
-{
-    for k in from..end {
-        if column[k] == x {
-            return Some(k);
-        }
-    }
-    None
 }

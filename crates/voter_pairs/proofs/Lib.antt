@@ -1,5 +1,5 @@
 pub mod Pairs
 pub mod Shares
-pub mod Places
 pub mod Entering
 pub mod Gathering
+pub mod Inserts

@@ -6,13 +6,13 @@ pub bounds-slots-own : goal.bounds-slots-own
 bounds-slots-own c = omega (arith, c.slot-own.ensures, slot_small c.args.id)
 
 pub returns-then-count-at : goal.returns-then-count-at
-returns-then-count-at c = slot_empty _ _ _ c.requires _ _ _ c.slot-own.ensures c.wide-at.ensures c.if-count-at.true
+returns-then-count-at c = slot_empty _ _ _ c.requires _ _ _ c.slot-own.ensures c.from-at.ensures c.if-count-at.true
 
 pub returns-then-met-id : goal.returns-then-met-id
-returns-then-met-id c = slot_own _ _ _ c.requires _ _ _ c.slot-own.ensures c.wide-at.ensures (omega (arith, c.if-count-at.false)) c.if-met-id.true
+returns-then-met-id c = slot_own _ _ _ c.requires _ _ _ c.slot-own.ensures c.from-at.ensures (omega (arith, c.if-count-at.false)) c.if-met-id.true
 
 pub returns-then-slot-own : goal.returns-then-slot-own
-returns-then-slot-own c = slot_strange _ _ _ c.requires _ _ _ c.slot-own.ensures c.wide-at.ensures _ c.slot.ensures c.if-slot-own.true
+returns-then-slot-own c = slot_strange _ _ _ c.requires _ _ _ c.slot-own.ensures c.from-at.ensures _ c.slot.ensures c.if-slot-own.true
 
 pub find-requires : goal.find-requires
 find-requires c = c.requires.few

@@ -1,5 +1,5 @@
 use mathlib.Core.Path.{sym, ◌∙◌}
-use Prim.Native.Nat.{◌≤◌, ◌-◌, ◌+◌}
+use Prim.Native.Nat.{◌≤◌, ◌+◌}
 use native.Mathlib.Omega.{arith}
 use native.Mathlib.Nat.{sub-zero}
 use Rattle.columns.proofs.Finds.{skip_eight}
