@@ -1,6 +1,6 @@
 -- Unused places stay 0: with `sound_inserted` and `sound_opened` this is the whole shape test.
 use mathlib.Core.Bool.{Bool, true, false, cond, not, ◌&&◌, ◌||◌}
-use mathlib.Core.List.{List, [], ◌∷◌}
+use mathlib.Core.List.{List, []}
 use mathlib.Core.Path.{◌≡◌, refl, sym, ap, subst, ◌∙◌}
 use mathlib.Core.Logic.{◌≢◌}
 use Prim.Native.Nat.{ℕ, zero, suc, ◌<◌}

@@ -1,5 +1,5 @@
 -- What a block that a call names has, and what the inner calls ask of it.
-use mathlib.Core.Bool.{Bool, true, false, cond, not}
+use mathlib.Core.Bool.{Bool, true, false, cond}
 use mathlib.Core.List.{List}
 use mathlib.Core.Path.{◌≡◌, refl, sym, ap, subst, ◌∙◌}
 use mathlib.Core.Logic.{◌≢◌}
@@ -30,13 +30,14 @@ use Rattle.vote_graph.specs.Shape.{lent, columns, graph_with, graph_of, is_graph
 use Rattle.vote_graph.specs.Target.{in_base, target, start, on_target}
 use Rattle.vote_graph.specs.Calls.{voted, tally_of, ancestor_of, ghost_of}
 use Rattle.vote_graph.proofs.Shapes.{Kept, is_graph_means}
+use Rattle.std.specs.Bool.{then_some}
 use Rattle.std.specs.Prelude.{Option, Some, None, Result, Ok, Err}
 use Rattle.refusals.specs.declared.Refusal.{Refusal}
 use Rattle.refusals.specs.declared.Refusal.TheVariants.{OffTheBase, UnknownTarget}
 
-pub not_not : (b : Bool) → not b ≡ false → b ≡ true
-not_not true e = refl
-not_not false e = sym e
+pub some_where : {A : Type 0} (b : Bool) (x : A) → then_some b x ≡ cond b (Some x) None
+some_where true x = refl
+some_where false x = refl
 
 at_most_one : {e : Refusal} {k : ℕ} → ◌≡◌ {A = Result ℕ Refusal} (Err e) (Ok k) → ⊥
 at_most_one q = let z : ◌≡◌ {A = ℕ} 0 1 = cc in omega arith

@@ -177,11 +177,7 @@ impl VoteGraph {
             return Ok(None);
         }
         let tally = self.tally(table, place);
-        if !tally.inside {
-            return Ok(None);
-        }
-        let bits = tally.bits;
-        Ok(Some(bits))
+        Ok(tally.inside.then_some(tally.bits))
     }
 
     fn tally(self, table: BlockTable, place: u8) -> Tally

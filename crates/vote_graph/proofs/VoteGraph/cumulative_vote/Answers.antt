@@ -1,8 +1,7 @@
-use mathlib.Core.Bool.{true, false}
-use mathlib.Core.Path.{◌≡◌, sym, ◌∙◌}
-use Rattle.loops.proofs.Tests.{T_true, false_T}
+use mathlib.Core.Path.{sym, ◌∙◌}
+use Rattle.loops.proofs.Tests.{T_true}
 use Rattle.vote_graph.specs.Calls.{cumulative_vote}
-use Rattle.vote_graph.proofs.Standings.{not_not, gate_falls, gate_few, found_in}
+use Rattle.vote_graph.proofs.Standings.{some_where, gate_falls, gate_few, found_in}
 use Rattle.vote_graph.proofs.VoteGraph.cumulative_vote.Goals as goal
 
 pub returns-then-not-is_graph : goal.returns-then-not-is_graph
@@ -28,14 +27,6 @@ tally-tally-requires c =
     let h = sym c.is_graph.ensures ∙ c.if-not-is_graph.false in
     record { shaped = T_true h; inside = found_in _ _ h _ _ (sym c.find.ensures ∙ c.in-Some.is); in_base = T_true (sym c.reaches.ensures ∙ c.if-not-reaches.false) }
 
-pub returns-then-not-tally : goal.returns-then-not-tally
-unfolding cumulative_vote
-returns-then-not-tally c =
-    let out : c.tally-tally.result.inside ≡ false = false_T _ (T_true c.if-not-tally.true) in
-    rw (sym c.is_graph.ensures ∙ c.if-not-is_graph.false, sym c.find.ensures ∙ c.in-Some.is, sym c.reaches.ensures ∙ c.if-not-reaches.false, ← c.tally-tally.ensures, out)
-
 pub returns : goal.returns
 unfolding cumulative_vote
-returns c =
-    let within : c.tally-tally.result.inside ≡ true = not_not _ c.if-not-tally.false in
-    rw (sym c.is_graph.ensures ∙ c.if-not-is_graph.false, sym c.find.ensures ∙ c.in-Some.is, sym c.reaches.ensures ∙ c.if-not-reaches.false, ← c.tally-tally.ensures, within)
+returns c = rw (sym c.is_graph.ensures ∙ c.if-not-is_graph.false, sym c.find.ensures ∙ c.in-Some.is, sym c.reaches.ensures ∙ c.if-not-reaches.false, ← c.tally-tally.ensures, c.then_some.ensures, some_where _ _)
