@@ -1,6 +1,7 @@
 -- A piece behind the bytes that were left: it is run with them, by way of the joint.
 use mathlib.Core.Bool.{Bool, true, false, not, ◌&&◌}
 use mathlib.Core.List.{List, [], ◌++◌, append-nil, append_assoc}
+use mathlib.Core.Logic.{◌⊎◌, inl, inr}
 use mathlib.Core.Path.{◌≡◌, refl, sym, ap, subst, ◌∙◌}
 use Prim.Native.Nat.{ℕ, ◌+◌, ◌-◌, ◌≤◌, ◌<◌}
 use native.Mathlib.Omega.{arith}
@@ -58,6 +59,11 @@ rest_means r h = (
     cut (is.Whole m) t = absurd t
     cut is.Unknown t = absurd t
 
+pub not_cut : (x : Record) → (x ≡ is.Cut → ⊥) → is_cut x ≡ false
+not_cut is.Cut h = absurd (h refl)
+not_cut (is.Whole m) h = refl
+not_cut is.Unknown h = refl
+
 -- sums that stop at 2^64 - 1
 plus_again : (a b c : ℕ) → plus a (b + c) ≡ plus (plus a b) c
 plus_again a b c = omega arith
@@ -73,7 +79,7 @@ unfolding after_run counted
 after_counted n k r = ended_counted r.end n k r.state r.count r.rest
 
 -- a refusal drops what is left
-after_refused : (n k m : ℕ) (s : Journal) (a b : List ℕ) → after_run n (ended s m a (Refused k)) ≡ after_run n (ended s m b (Refused k))
+after_refused : (n : ℕ) (k : Refusal) (m : ℕ) (s : Journal) (a b : List ℕ) → after_run n (ended s m a (Refused k)) ≡ after_run n (ended s m b (Refused k))
 unfolding after_run
 after_refused n k m s a b = refl
 
@@ -133,7 +139,7 @@ module _ (j : Journal) (rest : Rest) (stands : T (rest_stands rest)) (n : ℕ) (
   fits_joint = subst (λ l. p.at ≤ length l) is_joint fits
 
   -- a record is refused in it
-  pub went_refused : (k : Refusal) → p.end ≡ Refused k → after_run n (run_of p bs) ≡ went j rest n piece
+  went_refused : (k : Refusal) → p.end ≡ Refused k → after_run n (run_of p bs) ≡ went j rest n piece
   unfolding went
   went_refused k q =
       ap (λ (r : Run Journal). after_run n r) (e ∙ ap (run_from (told j)) is_joint ∙ from_ended (told j) state p.count (joint left piece) _ (Refused k) (over_joint (Refused k) q))
@@ -141,13 +147,17 @@ module _ (j : Journal) (rest : Rest) (stands : T (rest_stands rest)) (n : ℕ) (
       ∙ sym (ap (after_run n) (from_ended (told j) state p.count (left ++ piece) _ (Refused k)
       (joint_refused took left piece (told j) state p.count p.at fits_joint k (over_joint (Refused k) q))))
 
-  pub went_left : p.end ≡ Left → after_run n (run_of p bs) ≡ went j rest n piece
+  went_left : p.end ≡ Left → after_run n (run_of p bs) ≡ went j rest n piece
   unfolding went
   went_left q =
       ap (λ (r : Run Journal). after_run n r) (e ∙ ap (run_from (told j)) is_joint ∙ from_ended (told j) state p.count (joint left piece) _ Left (over_joint Left q))
       ∙ after_left n p.count (laid state) _ _
       ∙ sym (ap (after_run n) (from_ended (told j) state p.count (left ++ piece) _ Left
       (joint_left took left piece (told j) state p.count p.at fits_joint (over_joint Left q))))
+
+  pub went_over : ((k : Refusal) × (p.end ≡ Refused k)) ⊎ (p.end ≡ Left) → after_run n (run_of p bs) ≡ went j rest n piece
+  went_over (inl (k, q)) = went_refused k q
+  went_over (inr q) = went_left q
 
   -- it is cut, and no record was taken
   pub went_short : p.end ≡ Cut → p.count ≡ 0 → after_run n (run_of p bs) ≡ went j rest n piece
@@ -223,7 +233,7 @@ after_open n p bs q rest is_rest m is_m =
     (λ i. record { journal = p.journal; rest = (is_rest ∙ ap kept_rest (part_drop p.at bs)) i; records = is_m i; stop = Ok tt })
     ∙ sym (ap (λ (x : End). ended_by x n (run_of p bs)) q)
 
-abbrev stopped_by : Journal → ℕ → ℕ → Replay
+abbrev stopped_by : Journal → ℕ → Refusal → Replay
 stopped_by j m k = record { journal = j; rest = kept_rest []; records = m; stop = Err k }
 
 pub after_stopped : (n : ℕ) (p : Progress) (bs : List ℕ) (k : Refusal) → p.end ≡ Refused k → (m : ℕ) → m ≡ plus n p.count → (r : Replay)
@@ -233,10 +243,10 @@ after_stopped n p bs k q m is_m r e =
     e ∙ ap (λ (i : ℕ). stopped_by p.journal i k) is_m ∙ sym (ap (λ (x : End). ended_by x n (run_of p bs)) q)
 
 pub after_over : (n : ℕ) (p : Progress) (bs : List ℕ) → p.end ≡ Left → (m : ℕ) → m ≡ plus n p.count → (r : Replay)
-    → r ≡ stopped_by p.journal m 18 → r ≡ after_run n (run_of p bs)
+    → r ≡ stopped_by p.journal m OutOfTurn → r ≡ after_run n (run_of p bs)
 unfolding after_run
 after_over n p bs q m is_m r e =
-    e ∙ ap (λ (i : ℕ). stopped_by p.journal i 18) is_m ∙ sym (ap (λ (x : End). ended_by x n (run_of p bs)) q)
+    e ∙ ap (λ (i : ℕ). stopped_by p.journal i OutOfTurn) is_m ∙ sym (ap (λ (x : End). ended_by x n (run_of p bs)) q)
 
 pub rest_done : (bs kept : List ℕ) → kept ≡ bs ++ drop (length bs) (replicate 22 0) → record { bytes = kept; count = length bs } ≡ kept_rest bs
 unfolding kept_rest

@@ -70,22 +70,19 @@ fn after(records: u64, progress: Progress, bytes: &[u8]) -> Replay
     requires { (progress.at ≤ length bytes.now) × (progress.end ≡ Cut → length (drop progress.at bytes.now) ≤ 22) }
     ensures { result ≡ after_run records (run_of progress bytes.now) }
 {
-    let journal = progress.journal;
-    let at = progress.at;
-    let end = progress.end;
     let seen = more(records, progress.count);
-    match end {
+    match progress.end {
         End::Cut => {
-            let rest = rest_of(&bytes[at..]);
+            let rest = rest_of(&bytes[progress.at..]);
             Replay {
-                journal,
+                journal: progress.journal,
                 rest,
                 records: seen,
                 stop: Ok(()),
             }
         }
-        End::Refused(refusal) => stopped(journal, seen, refusal),
-        End::Left => stopped(journal, seen, Refusal::OutOfTurn),
+        End::Refused(refusal) => stopped(progress.journal, seen, refusal),
+        End::Left => stopped(progress.journal, seen, Refusal::OutOfTurn),
     }
 }
 
@@ -108,8 +105,7 @@ fn stopped(journal: Journal, records: u64, refusal: Refusal) -> Replay
 pub fn replayed(bytes: &[u8]) -> Replay
     ensures { result ≡ replayed bytes.now }
 {
-    let pairs = journal::no_pairs();
-    after(0, journal::from_voters(pairs, bytes), bytes)
+    after(0, journal::from_voters(journal::no_pairs(), bytes), bytes)
 }
 
 // Bytes that were left, and a part of the next piece behind them. An array's length is known of a parameter.
@@ -142,26 +138,19 @@ fn across(journal: Journal, rest: Rest, records: u64, piece: &[u8]) -> Replay
     requires { Stands Kept (told journal) × T (rest_stands rest) }
     ensures { result ≡ went journal rest records piece.now }
 {
-    let held = rest.bytes;
-    let count = rest.count;
-    let joint = join(held, count, piece);
+    let joint = join(rest.bytes, rest.count, piece);
     let both = joint.bytes;
-    let size = joint.count;
-    let first = journal.run(&both[..size]);
-    let taken = first.count;
-    let at = first.at;
-    let end = first.end;
-    match end {
+    let bytes = &both[..joint.count];
+    let first = journal.run(bytes);
+    match first.end {
         End::Cut => {
-            if taken == 0 {
-                return after(records, first, &both[..size]);
+            if first.count == 0 {
+                return after(records, first, bytes);
             }
-            let then = first.journal;
-            let part = &piece[at - count..];
-            after(more(records, taken), then.run(part), part)
+            let part = &piece[first.at - rest.count..];
+            after(more(records, first.count), first.journal.run(part), part)
         }
-        End::Refused(_) => after(records, first, &both[..size]),
-        End::Left => after(records, first, &both[..size]),
+        End::Refused(_) | End::Left => after(records, first, bytes),
     }
 }
 
@@ -186,16 +175,7 @@ fn read(held: [u8; 22], count: usize) -> Record
 fn is_rest(rest: Rest) -> bool
     ensures { result ≡ rest_stands rest }
 {
-    let held = rest.bytes;
-    let count = rest.count;
-    if 22 < count {
-        return false;
-    }
-    match read(held, count) {
-        Record::Cut => true,
-        Record::Whole(_) => false,
-        Record::Unknown => false,
-    }
+    rest.count <= 22 && matches!(read(rest.bytes, rest.count), Record::Cut)
 }
 
 impl Replay {
@@ -203,10 +183,8 @@ impl Replay {
     pub fn new() -> Replay
         ensures { result ≡ started }
     {
-        let pairs = journal::no_pairs();
-        let journal = journal::with_pairs(pairs);
         Replay {
-            journal,
+            journal: journal::with_pairs(journal::no_pairs()),
             rest: Rest {
                 bytes: [0u8; 22],
                 count: 0,
@@ -220,12 +198,7 @@ impl Replay {
     pub fn is_replay(self) -> bool
         ensures { result ≡ stands self }
     {
-        let journal = self.journal;
-        let rest = self.rest;
-        if !journal.is_journal() {
-            return false;
-        }
-        is_rest(rest)
+        self.journal.is_journal() && is_rest(self.rest)
     }
 
     // The next piece of the journal's bytes. A replay that has stopped stays as it is.
@@ -238,18 +211,17 @@ impl Replay {
                 replay: self,
             };
         }
-        let stop = self.stop;
-        let journal = self.journal;
-        let rest = self.rest;
-        match stop {
+        match self.stop {
             Err(refusal) => Fed {
                 answer: Err(refusal),
                 replay: self,
             },
             Ok(()) => {
-                let replay = went(journal, rest, self.records, piece);
-                let answer = replay.stop;
-                Fed { answer, replay }
+                let replay = went(self.journal, self.rest, self.records, piece);
+                Fed {
+                    answer: replay.stop,
+                    replay,
+                }
             }
         }
     }

@@ -3,4 +3,4 @@ use Rattle.feeding.proofs.Replay.new.Goals as goal
 
 pub returns : goal.returns
 unfolding kept_rest
-returns c = rw (c.with_pairs-journal.ensures, c.no_pairs-pairs.ensures)
+returns c = rw (c.with_pairs.ensures, c.no_pairs.ensures)
