@@ -9,6 +9,10 @@ use Rattle.block_shape.specs.Shape.{tabled}
 use Rattle.refusals.specs.declared.Refusal.{Refusal}
 use Rattle.refusals.specs.declared.Refusal.TheVariants.{Misshapen}
 
+-- how many blocks a table has that keeps the rules
+unfoldable pub used : BlockTable → Result ℕ Refusal
+used t = cond (tabled t) (Ok t.count) (Err Misshapen)
+
 unfoldable pub find : BlockTable → ℕ → Result (Option ℕ) Refusal
 find t id = cond (tabled t) (Ok (place_of t.ids t.count id)) (Err Misshapen)
 

@@ -4,7 +4,7 @@
 ghost use Rattle.std.specs.Prelude.{◌≡◌};
 ghost use Rattle.block_shape.specs.Shape.{tabled};
 ghost use Rattle.block_table.specs.Add.{opened, add};
-ghost use Rattle.block_table.specs.Ask.{find, number, ancestor_at, is_at_or_below};
+ghost use Rattle.block_table.specs.Ask.{used, find, number, ancestor_at, is_at_or_below};
 
 pub use blocks::{Added, BlockTable};
 use refusals::Refusal;
@@ -62,40 +62,36 @@ pub fn add(mut table: BlockTable, id: u32, parent: u32) -> Added
     Added { answer, table }
 }
 
-// The block with this id.
-pub fn find(table: BlockTable, id: u32) -> Result<Option<u8>, Refusal>
-    ensures { result ≡ find table id }
+// How many blocks the table has, where it keeps the shape rules.
+fn used(table: BlockTable) -> Result<usize, Refusal>
+    ensures { result ≡ used table }
 {
     if !is_table(table) {
         return Err(Refusal::Misshapen);
     }
-    let Some(place) = blocks::find(&table.ids, table.count, id) else {
-        return Ok(None);
-    };
-    Ok(Some(place))
+    Ok(table.count)
+}
+
+// The block with this id.
+pub fn find(table: BlockTable, id: u32) -> Result<Option<u8>, Refusal>
+    ensures { result ≡ find table id }
+{
+    Ok(blocks::find(&table.ids, used(table)?, id))
 }
 
 // The number of the block at a place.
 pub fn number(table: BlockTable, block: u8) -> Result<Option<u32>, Refusal>
     ensures { result ≡ number table block }
 {
-    if !is_table(table) {
-        return Err(Refusal::Misshapen);
-    }
-    if table.count <= block as usize {
-        return Ok(None);
-    }
-    Ok(Some(blocks::number(&table.numbers, block)))
+    let known = (block as usize) < used(table)?;
+    Ok(known.then_some(blocks::number(&table.numbers, block)))
 }
 
 // The block of this number on the way from a block to the root.
 pub fn ancestor_at(table: BlockTable, block: u8, wanted: u32) -> Result<Option<u8>, Refusal>
     ensures { result ≡ ancestor_at table block wanted }
 {
-    if !is_table(table) {
-        return Err(Refusal::Misshapen);
-    }
-    if table.count <= block as usize {
+    if used(table)? <= block as usize {
         return Ok(None);
     }
     if wanted < blocks::number(&table.numbers, 0) {
@@ -111,18 +107,9 @@ pub fn ancestor_at(table: BlockTable, block: u8, wanted: u32) -> Result<Option<u
 pub fn is_at_or_below(table: BlockTable, base: u8, block: u8) -> Result<bool, Refusal>
     ensures { result ≡ is_at_or_below table base block }
 {
-    if !is_table(table) {
-        return Err(Refusal::Misshapen);
-    }
-    if table.count <= base as usize {
+    let count = used(table)?;
+    if count <= base as usize || count <= block as usize {
         return Ok(false);
     }
-    if table.count <= block as usize {
-        return Ok(false);
-    }
-    if blocks::is_at_or_below(&table.parents, &table.numbers, base, block) {
-        Ok(true)
-    } else {
-        Ok(false)
-    }
+    Ok(blocks::is_at_or_below(&table.parents, &table.numbers, base, block))
 }

@@ -1,20 +1,25 @@
 use mathlib.Core.Path.{sym, ◌∙◌}
+use native.Mathlib.Omega.{arith}
+use borrow.Author.Rules.{rules}
 use Rattle.loops.proofs.Tests.{T_true}
-use Rattle.block_table.specs.Ask.{find}
 use Rattle.block_shape.proofs.Shapes.{tabled_shaped}
+use Rattle.block_table.specs.Ask.{find}
+use Rattle.block_table.proofs.Counts.{used_ok, used_err}
 use Rattle.block_table.proofs.find.Goals as goal
 
-pub returns-then-not-is_table : goal.returns-then-not-is_table
+pub returns-in_err-used : goal.returns-in_err-used
 unfolding find
-returns-then-not-is_table c = rw (sym c.is_table.ensures ∙ c.if-not-is_table.true)
+returns-in_err-used c =
+    let u = used_err _ (sym c.used.ensures ∙ c.in_err-used.was) in
+    rw (u.0, ← u.1) (search rules)
 
 pub find-requires : goal.find-requires
-find-requires c = (tabled_shaped _ (T_true (sym c.is_table.ensures ∙ c.if-not-is_table.false))).few
-
-pub returns-in_default : goal.returns-in_default
-unfolding find
-returns-in_default c = rw (sym c.is_table.ensures ∙ c.if-not-is_table.false, sym c.find.ensures ∙ c.in_default.is)
+find-requires c =
+    let u = used_ok _ (sym c.used.ensures ∙ c.in_ok-used.was) in
+    omega (arith, u.1, (tabled_shaped _ (T_true u.0)).few)
 
 pub returns : goal.returns
 unfolding find
-returns c = rw (sym c.is_table.ensures ∙ c.if-not-is_table.false, sym c.find.ensures ∙ c.in-Some.is)
+returns c =
+    let u = used_ok _ (sym c.used.ensures ∙ c.in_ok-used.was) in
+    rw (u.0, c.find.ensures, u.1)

@@ -1,32 +1,37 @@
-use native.Mathlib.Omega.{arith}
 use mathlib.Core.Path.{sym, ◌∙◌}
+use native.Mathlib.Omega.{arith}
 use borrow.Author.Tests.{le-ltb, lt-ltb}
+use borrow.Author.Rules.{rules}
 use Rattle.loops.proofs.Tests.{T_true}
-use Rattle.block_table.specs.Ask.{is_at_or_below}
 use Rattle.block_shape.proofs.Shapes.{tabled_shaped}
+use Rattle.block_table.specs.Ask.{is_at_or_below}
+use Rattle.block_table.proofs.Counts.{used_ok, used_err}
 use Rattle.block_table.proofs.is_at_or_below.Goals as goal
+use Rattle.block_table.proofs.is_at_or_below.Goals.{then-count-base-via-then-count-base, then-count-base-via-else-count-base+then-count-block}
 
-pub returns-then-not-is_table : goal.returns-then-not-is_table
+pub returns-in_err-count : goal.returns-in_err-count
 unfolding is_at_or_below
-returns-then-not-is_table c = rw (sym c.is_table.ensures ∙ c.if-not-is_table.true)
-
-pub returns-then-table-base : goal.returns-then-table-base
-unfolding is_at_or_below
-returns-then-table-base c = rw (sym c.is_table.ensures ∙ c.if-not-is_table.false, le-ltb _ _ c.if-table-base.true)
-
-pub returns-then-table-block : goal.returns-then-table-block
-unfolding is_at_or_below
-returns-then-table-block c = rw (sym c.is_table.ensures ∙ c.if-not-is_table.false, lt-ltb _ _ c.if-table-base.false, le-ltb _ _ c.if-table-block.true)
+returns-in_err-count c =
+    let u = used_err _ (sym c.used.ensures ∙ c.in_err-count.was) in
+    rw (u.0, ← u.1) (search rules)
 
 pub is_at_or_below-requires : goal.is_at_or_below-requires
 is_at_or_below-requires c =
-    let w = tabled_shaped _ (T_true (sym c.is_table.ensures ∙ c.if-not-is_table.false)) in
-    (_, w.tree, omega (arith, c.if-table-base.false, c.if-table-block.false), omega (arith, c.if-table-base.false, c.if-table-block.false))
+    let u = used_ok _ (sym c.used.ensures ∙ c.in_ok-count.was) in
+    let w = tabled_shaped _ (T_true u.0) in
+    (_, w.tree, omega (arith, u.1, c.if-count-base.false), omega (arith, u.1, c.if-count-block.false))
 
-pub returns-then-is_at_or_below : goal.returns-then-is_at_or_below
+pub returns-then-count-base : goal.returns-then-count-base
 unfolding is_at_or_below
-returns-then-is_at_or_below c = rw (sym c.is_table.ensures ∙ c.if-not-is_table.false, lt-ltb _ _ c.if-table-base.false, lt-ltb _ _ c.if-table-block.false, sym c.is_at_or_below.ensures ∙ c.if-is_at_or_below.true)
+returns-then-count-base c =
+    let u = used_ok _ (sym c.used.ensures ∙ c.in_ok-count.was) in
+    elim c.then-count-base.branch [
+      | then-count-base-via-then-count-base w ↦ rw (u.0, ← u.1, le-ltb _ _ w.if-count-base.true)
+      | then-count-base-via-else-count-base+then-count-block w ↦ rw (u.0, ← u.1, lt-ltb _ _ w.if-count-base.false, le-ltb _ _ w.if-count-block.true)
+    ]
 
-pub returns-else-is_at_or_below : goal.returns-else-is_at_or_below
+pub returns : goal.returns
 unfolding is_at_or_below
-returns-else-is_at_or_below c = rw (sym c.is_table.ensures ∙ c.if-not-is_table.false, lt-ltb _ _ c.if-table-base.false, lt-ltb _ _ c.if-table-block.false, sym c.is_at_or_below.ensures ∙ c.if-is_at_or_below.false)
+returns c =
+    let u = used_ok _ (sym c.used.ensures ∙ c.in_ok-count.was) in
+    rw (u.0, ← u.1, lt-ltb _ _ c.if-count-base.false, lt-ltb _ _ c.if-count-block.false, c.is_at_or_below.ensures)

@@ -1,16 +1,17 @@
 use mathlib.Core.Path.{sym, ◌∙◌}
-use borrow.Author.Tests.{le-ltb, lt-ltb}
+use borrow.Author.Rules.{rules}
 use Rattle.block_table.specs.Ask.{number}
+use Rattle.block_table.proofs.Counts.{used_ok, used_err, some_where}
 use Rattle.block_table.proofs.number.Goals as goal
 
-pub returns-then-not-is_table : goal.returns-then-not-is_table
+pub returns-in_err-known : goal.returns-in_err-known
 unfolding number
-returns-then-not-is_table c = rw (sym c.is_table.ensures ∙ c.if-not-is_table.true)
-
-pub returns-then-table-block : goal.returns-then-table-block
-unfolding number
-returns-then-table-block c = rw (sym c.is_table.ensures ∙ c.if-not-is_table.false, le-ltb _ _ c.if-table-block.true)
+returns-in_err-known c =
+    let u = used_err _ (sym c.used.ensures ∙ c.in_err-known.was) in
+    rw (u.0, ← u.1) (search rules)
 
 pub returns : goal.returns
 unfolding number
-returns c = rw (sym c.is_table.ensures ∙ c.if-not-is_table.false, lt-ltb _ _ c.if-table-block.false, c.number.ensures)
+returns c =
+    let u = used_ok _ (sym c.used.ensures ∙ c.in_ok-known.was) in
+    rw (u.0, c.then_some.ensures, some_where _ _, c.number.ensures, u.1)
