@@ -116,12 +116,9 @@ fn put_answers<'a>(
     requires { at + 163 ≤ 512 }
     ensures { (Put out.old at (answer_lines ids.now numbers.now answers) out.new result) × (result ≤ at + 163) }
 {
-    let prevote = answers.prevote;
-    let ghost_told = round::block_of(ids, numbers, prevote);
-    let estimate = answers.estimate;
-    let estimate_told = round::block_of(ids, numbers, estimate);
-    let finalized = answers.finalized;
-    let final_told = round::block_of(ids, numbers, finalized);
+    let ghost_told = round::block_of(ids, numbers, answers.prevote);
+    let estimate_told = round::block_of(ids, numbers, answers.estimate);
+    let final_told = round::block_of(ids, numbers, answers.finalized);
     let a = put_block(out, at, b"ghost", ghost_told);
     let b = put_block(out, a, b"estimate", estimate_told);
     let c = put_block(out, b, b"final", final_told);
@@ -149,14 +146,11 @@ pub fn put_no_round(out: &mut [u8; 512], tail: usize) -> usize
 pub fn put_round(out: &mut [u8; 512], round: Round, tail: usize) -> usize
     ensures { (out.new ≡ round_lines round tail ++ drop (length (round_lines round tail)) out.old) × (result ≡ length (round_lines round tail)) }
 {
-    let context = round.context;
-    let voters = context.voters;
+    let voters = round.context.voters;
     let heard = round.heard;
-    let graph = round.graph;
     let table = round.table;
-    let answers = round.answers;
-    let prevoters = round::heard_in(graph, Phase::Prevote);
-    let precommitters = round::heard_in(graph, Phase::Precommit);
+    let prevoters = round::heard_in(round.graph, Phase::Prevote);
+    let precommitters = round::heard_in(round.graph, Phase::Precommit);
     let a = put_line(out, 0, b"round ", round.number);
     let b = put_heard(
         out,
@@ -176,6 +170,6 @@ pub fn put_round(out: &mut [u8; 512], round: Round, tail: usize) -> usize
         voters.threshold,
         precommitters,
     );
-    let d = put_answers(out, c, &table.ids, &table.numbers, answers);
+    let d = put_answers(out, c, &table.ids, &table.numbers, round.answers);
     put_line(out, d, b"tail ", tail as u64)
 }

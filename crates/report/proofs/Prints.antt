@@ -1,6 +1,7 @@
 -- The lines that are due, and a text that goes from an array into a lent buffer.
 use mathlib.Core.Bool.{true}
 use mathlib.Core.List.{List, ◌++◌}
+use mathlib.Core.Logic.{◌⊎◌, inl, inr}
 use mathlib.Core.Path.{◌≡◌, refl, sym, ap, subst, ◌∙◌}
 use Prim.Native.Nat.{ℕ, ◌≤◌, ◌<◌}
 use native.Mathlib.Omega.{arith}
@@ -27,13 +28,10 @@ module _ (r : Replay) where
   unfolding lines_of
   lines_round e f = λ i. lines_by (e i) (f i) r
 
-  pub lines_blocks : r.stop ≡ Ok tt → r.journal.turn ≡ Blocks → lines_of r ≡ text.no_round r.rest.count
+  pub lines_early : r.stop ≡ Ok tt → (r.journal.turn ≡ Blocks) ⊎ (r.journal.turn ≡ Voters) → lines_of r ≡ text.no_round r.rest.count
   unfolding lines_of
-  lines_blocks e f = λ i. lines_by (e i) (f i) r
-
-  pub lines_voters : r.stop ≡ Ok tt → r.journal.turn ≡ Voters → lines_of r ≡ text.no_round r.rest.count
-  unfolding lines_of
-  lines_voters e f = λ i. lines_by (e i) (f i) r
+  lines_early e (inl f) = λ i. lines_by (e i) (f i) r
+  lines_early e (inr f) = λ i. lines_by (e i) (f i) r
 
 -- a text from the start of a buffer, its length told
 pub put_as : (t u : List ℕ) → t ≡ u → (old new : List ℕ) (n : ℕ) → (new ≡ t ++ drop (length t) old) × (n ≡ length t) → (new ≡ u ++ drop (length u) old) × (n ≡ length u)

@@ -2,7 +2,6 @@
 #![tactic(auto)]
 
 ghost use Rattle.std.specs.Prelude.{◌≡◌, ◌++◌, length, drop};
-ghost use Rattle.weights.specs.Weights.{plus};
 ghost use Rattle.listing.specs.Written.{Lent};
 ghost use Rattle.report.specs.Report.{lines_of, printed};
 
@@ -10,27 +9,17 @@ use feeding::Replay;
 use journal::Turn;
 use refusals::Refusal;
 
-// The number of the record after those taken.
-fn next(records: u64) -> u64
-    ensures { result ≡ plus records 1 }
-{
-    records.saturating_add(1)
-}
-
-// The lines of a replay, in a lent array.
+// The lines of a replay, in a lent array. A refused record is the one after those taken.
 fn put(replay: Replay, out: &mut [u8; 512]) -> usize
     ensures { (out.new ≡ lines_of replay ++ drop (length (lines_of replay)) out.old) × (result ≡ length (lines_of replay)) }
 {
-    let stop = replay.stop;
-    let rest = replay.rest;
     let journal = replay.journal;
-    let turn = journal.turn;
-    match stop {
-        Err(refusal) => lines::put_refused(out, refusal, next(replay.records)),
-        Ok(()) => match turn {
-            Turn::Votes => lines::put_round(out, journal.round, rest.count),
-            Turn::Blocks => lines::put_no_round(out, rest.count),
-            Turn::Voters => lines::put_no_round(out, rest.count),
+    let tail = replay.rest.count;
+    match replay.stop {
+        Err(refusal) => lines::put_refused(out, refusal, feeding::more(replay.records, 1)),
+        Ok(()) => match journal.turn {
+            Turn::Votes => lines::put_round(out, journal.round, tail),
+            Turn::Blocks | Turn::Voters => lines::put_no_round(out, tail),
         },
     }
 }

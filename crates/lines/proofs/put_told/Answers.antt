@@ -7,6 +7,3 @@ returns-in-Some c = rw c.in-Some.is (c.put_named-a.ensures.0 then c.put_named-b.
 
 pub returns-in-None : goal.returns-in-None
 returns-in-None c = rw c.in-None.is (c.put-in-None.ensures, omega (arith, c.put-in-None.ensures.next_is))
-
-pub returns-in-Err : goal.returns-in-Err
-returns-in-Err c = rw c.in-Err.is (c.put-in-Err.ensures, omega (arith, c.put-in-Err.ensures.next_is))
