@@ -23,8 +23,14 @@ use Rattle.figures.specs.Figures.{figures, in_order, figured}
 use Rattle.figures.proofs.Rows.{figures_length}
 use Rattle.beamtassel.specs.Calls.{Call, refused, given, number_of, has_round, finalizing_in, views_in, weighed, replay_call, print_call, finalizing_call, two_views_call}
 use Rattle.beamtassel.proofs.Rounds.{round_passes}
-use Rattle.std.specs.Prelude.{Option, Some, None, Result, Ok, Err}
+use Rattle.std.specs.Prelude.{Option, Some, None, Result, Ok, Err, IsErrAnd}
+use Rattle.std.proofs.lemmas.Result.{err_from_is_err_and}
 use Rattle.refusals.specs.declared.Refusal.{Refusal}
+use Rattle.refusals.specs.declared.Refusal.TheVariants.{NothingFinal, UnlikeViews}
+
+-- what leaves at a `?`
+exit_is : {A : Type 0} {e : Refusal} (y : Result A Refusal) → IsErrAnd y (λ d. d ≡ e) → y ≡ Err e
+exit_is y q = let w = err_from_is_err_and y q in w.1 ∙ ap Err w.2
 
 -- an answer beside a lent buffer, as a call
 abbrev as_call : Lent → Call
@@ -81,20 +87,21 @@ module _ (js out : List ℕ) where
       ∙ ap (λ (t : List ℕ). given t out) (text_summed (replayed js))
 
   module _ (r : Replay) (is : r ≡ replayed js) where
-    pub finalizing_refused : (k : ℕ) → r.stop ≡ Err k → (n : ℕ) → n ≡ 4294967296 + k → record { number = n; out = out } ≡ finalizing_call js out
+    pub finalizing_refused : (e : Refusal) → r.stop ≡ Err e → (y : Result ℕ Refusal) → IsErrAnd y (λ d. d ≡ e)
+        → record { number = number_of y; out = out } ≡ finalizing_call js out
     unfolding finalizing_call
-    finalizing_refused k stop n f = rw (← is, stop, f)
+    finalizing_refused e stop y q = rw (exit_is y q, ← is, stop)
 
-    pub finalizing_none : r.stop ≡ Ok tt → has_round r.journal.turn ≡ false → (n : ℕ) → n ≡ 4294967296 + 15
-        → record { number = n; out = out } ≡ finalizing_call js out
+    pub finalizing_none : r.stop ≡ Ok tt → has_round r.journal.turn ≡ false → refused NothingFinal out ≡ finalizing_call js out
     unfolding finalizing_call
-    finalizing_none stop turn n f = rw (← is, stop, turn, f)
+    finalizing_none stop turn = rw (← is, stop, turn)
 
-    pub finalizing_done : r.stop ≡ Ok tt → has_round r.journal.turn ≡ true → (w : Result ℕ Refusal) (n : ℕ) (after : List ℕ) → n ≡ number_of w
-        → record { answer = w; bytes = after } ≡ finalizing_precommits r.journal.round out → record { number = n; out = after } ≡ finalizing_call js out
+    pub finalizing_done : r.stop ≡ Ok tt → has_round r.journal.turn ≡ true → (w : Result ℕ Refusal) (after : List ℕ)
+        → record { answer = w; bytes = after } ≡ finalizing_precommits r.journal.round out
+        → record { number = number_of w; out = after } ≡ finalizing_call js out
     unfolding finalizing_call
-    finalizing_done stop turn w n after f h =
-        called w n after f _ h ∙ finalizing_given r.journal.round shape out ∙ rw (← is, stop, turn) refl
+    finalizing_done stop turn w after h =
+        ap as_call h ∙ finalizing_given r.journal.round shape out ∙ rw (← is, stop, turn) refl
       where
         shape : shaped r.journal.round ≡ true
         shape = ap (λ (x : Replay). shaped x.journal.round) is ∙ round_passes js (ap (λ (x : Replay). has_round x.journal.turn) (sym is) ∙ turn)
@@ -103,30 +110,36 @@ module _ (first second out : List ℕ) (a b : Replay) (a_is : a ≡ replayed fir
   abbrev Is : ℕ → List ℕ → Type 0
   Is n after = ◌≡◌ {A = Call} (record { number = n; out = after }) (two_views_call first second out)
 
-  pub first_refused : (k : ℕ) → a.stop ≡ Err k → (n : ℕ) → n ≡ 4294967296 + k → Is n out
+  pub first_refused : (e : Refusal) → a.stop ≡ Err e → (y : Result ℕ Refusal) → IsErrAnd y (λ d. d ≡ e) → Is (number_of y) out
   unfolding two_views_call
-  first_refused k stop n f = rw (← a_is, stop, f)
+  first_refused e stop y q = rw (exit_is y q, ← a_is, stop)
 
-  pub second_refused : a.stop ≡ Ok tt → (k : ℕ) → b.stop ≡ Err k → (n : ℕ) → n ≡ 4294967296 + k → Is n out
+  pub second_refused : a.stop ≡ Ok tt → (e : Refusal) → b.stop ≡ Err e → (y : Result ℕ Refusal) → IsErrAnd y (λ d. d ≡ e)
+      → Is (number_of y) out
   unfolding two_views_call
-  second_refused going k stop n f = rw (← a_is, going, ← b_is, stop, f)
+  second_refused going e stop y q = rw (exit_is y q, ← a_is, going, ← b_is, stop)
 
   module _ (a_open : a.stop ≡ Ok tt) (b_open : b.stop ≡ Ok tt) where
-    pub first_none : has_round a.journal.turn ≡ false → (n : ℕ) → n ≡ 4294967296 + 16 → Is n out
+    pub first_none : has_round a.journal.turn ≡ false → Is (number_of (Err UnlikeViews)) out
     unfolding two_views_call
-    first_none turn n f = rw (← a_is, a_open, ← b_is, b_open, turn, f)
+    first_none turn = rw (← a_is, a_open, ← b_is, b_open, turn)
 
-    pub second_none : has_round a.journal.turn ≡ true → has_round b.journal.turn ≡ false → (n : ℕ) → n ≡ 4294967296 + 16 → Is n out
+    pub second_none : has_round a.journal.turn ≡ true → has_round b.journal.turn ≡ false → Is (number_of (Err UnlikeViews)) out
     unfolding two_views_call
-    second_none turn none n f = rw (← a_is, a_open, ← b_is, b_open, turn, none, f)
+    second_none turn none = rw (← a_is, a_open, ← b_is, b_open, turn, none)
 
-    pub views_done : has_round a.journal.turn ≡ true → has_round b.journal.turn ≡ true → (v : Result ℕ Refusal) → v ≡ views a.journal.round b.journal.round
-        → (n : ℕ) (after : List ℕ) → record { number = n; out = after } ≡ weighed v out → Is n after
-    unfolding two_views_call
-    views_done s t v e n after h =
-        h ∙ ap (λ (x : Result ℕ Refusal). weighed x out) (e ∙ views_are a.journal.round b.journal.round (shape first a a_is s) (shape second b b_is t))
-        ∙ rw (← a_is, a_open, ← b_is, b_open, s, t) refl
-      where
-        shape : (js : List ℕ) (r : Replay) → r ≡ replayed js → has_round r.journal.turn ≡ true → shaped r.journal.round ≡ true
-        shape js r is turn =
-            ap (λ (x : Replay). shaped x.journal.round) is ∙ round_passes js (ap (λ (x : Replay). has_round x.journal.turn) (sym is) ∙ turn)
+    module _ (s : has_round a.journal.turn ≡ true) (t : has_round b.journal.turn ≡ true) where
+      pub views_done : (v : Result ℕ Refusal) → v ≡ views a.journal.round b.journal.round
+          → (n : ℕ) (after : List ℕ) → record { number = n; out = after } ≡ weighed v out → Is n after
+      unfolding two_views_call
+      views_done v e n after h =
+          h ∙ ap (λ (x : Result ℕ Refusal). weighed x out) (e ∙ views_are a.journal.round b.journal.round (shape first a a_is s) (shape second b b_is t))
+          ∙ rw (← a_is, a_open, ← b_is, b_open, s, t) refl
+        where
+          shape : (js : List ℕ) (r : Replay) → r ≡ replayed js → has_round r.journal.turn ≡ true → shaped r.journal.round ≡ true
+          shape js r is turn =
+              ap (λ (x : Replay). shaped x.journal.round) is ∙ round_passes js (ap (λ (x : Replay). has_round x.journal.turn) (sym is) ∙ turn)
+
+      pub views_refused : (e : Refusal) → Err e ≡ views a.journal.round b.journal.round → (y : Result ℕ Refusal) → IsErrAnd y (λ d. d ≡ e)
+          → Is (number_of y) out
+      views_refused e w y q = views_done (Err e) w (number_of y) out (rw (exit_is y q))

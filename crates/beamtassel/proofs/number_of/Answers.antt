@@ -1,7 +1,0 @@
-use Rattle.beamtassel.proofs.number_of.Goals as goal
-
-pub returns-in-Ok : goal.returns-in-Ok
-returns-in-Ok c = rw c.in-Ok.is
-
-pub returns-in-Err : goal.returns-in-Err
-returns-in-Err c = rw (c.refusal.ensures, c.in-Err.is)
