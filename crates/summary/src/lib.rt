@@ -62,28 +62,21 @@ pub fn bare(outcome: Outcome, records: u64, tail: usize) -> Summary
 fn of_round(round: Round, records: u64, tail: usize) -> Summary
     ensures { result ≡ of_round round records tail }
 {
-    let context = round.context;
-    let voters = context.voters;
     let table = round.table;
-    let graph = round.graph;
-    let heard = round.heard;
     let answers = round.answers;
-    let highest = answers.prevote;
-    let estimated = answers.estimate;
-    let last = answers.finalized;
-    let prevote = round::block_of(&table.ids, &table.numbers, highest);
-    let estimate = round::block_of(&table.ids, &table.numbers, estimated);
-    let finalized = round::block_of(&table.ids, &table.numbers, last);
-    let prevoters = round::heard_in(graph, Phase::Prevote);
-    let precommitters = round::heard_in(graph, Phase::Precommit);
+    let prevote = round::block_of(&table.ids, &table.numbers, answers.prevote);
+    let estimate = round::block_of(&table.ids, &table.numbers, answers.estimate);
+    let finalized = round::block_of(&table.ids, &table.numbers, answers.finalized);
+    let prevoters = round::heard_in(round.graph, Phase::Prevote);
+    let precommitters = round::heard_in(round.graph, Phase::Precommit);
     Summary {
         outcome: Outcome::Voting,
         records,
         tail,
         number: round.number,
-        total: voters.total,
-        threshold: voters.threshold,
-        heard,
+        total: round.context.voters.total,
+        threshold: round.context.voters.threshold,
+        heard: round.heard,
         prevoters,
         precommitters,
         prevote,
@@ -97,19 +90,13 @@ fn of_round(round: Round, records: u64, tail: usize) -> Summary
 pub fn of(replay: Replay) -> Summary
     ensures { result ≡ summed replay }
 {
-    let stop = replay.stop;
-    let rest = replay.rest;
     let journal = replay.journal;
-    let turn = journal.turn;
-    match stop {
+    let tail = replay.rest.count;
+    match replay.stop {
         Err(refusal) => bare(Outcome::Refused(refusal), replay.records, 0),
-        Ok(()) => match turn {
-            Turn::Votes => {
-                let round = journal.round;
-                of_round(round, replay.records, rest.count)
-            }
-            Turn::Blocks => bare(Outcome::Early, replay.records, rest.count),
-            Turn::Voters => bare(Outcome::Early, replay.records, rest.count),
+        Ok(()) => match journal.turn {
+            Turn::Votes => of_round(journal.round, replay.records, tail),
+            Turn::Blocks | Turn::Voters => bare(Outcome::Early, replay.records, tail),
         },
     }
 }
