@@ -2,11 +2,11 @@
 #![tactic(auto)]
 
 use context::{Phase, Vote, VoteNode};
-use std::io::Result;
+use refusals::Refusal;
+use std::io::{self, Write};
 use streams::Outputs;
-use voter_set::{Answer, VoterSet};
-
-const MOST: u64 = 18446744073709551615;
+use voter_info::VoterInfo;
+use voter_set::VoterSet;
 
 // The ids 0, 1, 2, .. 64.
 const IDS: [u32; 65] = [
@@ -15,103 +15,72 @@ const IDS: [u32; 65] = [
     50, 51, 52, 53, 54, 55, 56, 57, 58, 59, 60, 61, 62, 63, 64,
 ];
 
-fn say(to: Outputs, words: &[u8]) -> Result<()> {
-    streams::say(to, b"numbers: standard output", words)
-}
-
-fn say_number(to: Outputs, words: &[u8], n: u64) -> Result<()> {
-    say(to, words)?;
-    streams::say_number(to, b"numbers: standard output", n)
-}
-
-// The threshold of a total.
-fn threshold(to: Outputs, total: u64) -> Result<()> {
-    say_number(to, b"total ", total)?;
-    say_number(to, b" threshold ", grandpa::threshold(total))?;
-    say(to, b"\n")
-}
-
 // What a voter list gives: its threshold and number of voters, or a refusal.
-fn voters(to: Outputs, name: &[u8], ids: &[u32], weights: &[u64]) -> Result<()> {
-    say(to, name)?;
-    let made = VoterSet::new(ids, weights);
-    let answer = made.answer;
-    let set = made.voters;
-    match answer {
-        Answer::Refused(n) => say_number(to, b": refused ", n as u64)?,
-        Answer::Made => {
-            say_number(to, b": voters ", set.len() as u64)?;
-            say_number(to, b" threshold ", set.threshold())?;
+fn voters(to: &mut Outputs, name: &str, made: Result<VoterSet, Refusal>) -> io::Result<()> {
+    match made {
+        Ok(set) => {
+            let count = set.len();
+            let threshold = set.threshold();
+            writeln!(to, "{name}: voters {count} threshold {threshold}")
         }
+        Err(refusal) => writeln!(to, "{name}: {refusal}"),
     }
-    say(to, b"\n")
 }
 
 // The words of a vote's bit.
-fn bit(to: Outputs, name: &[u8], set: VoterSet, id: u32, phase: Phase) -> Result<()> {
-    say(to, name)?;
-    let Some(voter) = set.get(id) else {
-        return say(to, b": no voter\n");
+fn bit(to: &mut Outputs, name: &str, voter: Option<VoterInfo>, phase: Phase) -> io::Result<()> {
+    let Some(voter) = voter else {
+        return writeln!(to, "{name}: no voter");
     };
     let node = VoteNode::default().add_vote(Vote::new(voter, phase));
-    let bits = node.bits;
-    say_number(to, b": ", bits[0])?;
-    say_number(to, b" ", bits[1])?;
-    say(to, b"\n")
+    let [low, high] = node.bits;
+    writeln!(to, "{name}: {low} {high}")
 }
 
-fn thresholds(to: Outputs) -> Result<()> {
-    threshold(to, 0)?;
-    threshold(to, 1)?;
-    threshold(to, 2)?;
-    threshold(to, 3)?;
-    threshold(to, 4)?;
-    threshold(to, 5)?;
-    threshold(to, 6)?;
-    threshold(to, 7)?;
-    threshold(to, 10)?;
-    threshold(to, MOST)
+fn thresholds(to: &mut Outputs) -> io::Result<()> {
+    for total in [0, 1, 2, 3, 4, 5, 6, 7, 10, u64::MAX] {
+        let threshold = grandpa::threshold(total);
+        writeln!(to, "total {total} threshold {threshold}")?;
+    }
+    Ok(())
 }
 
-fn lists(to: Outputs) -> Result<()> {
+fn lists(to: &mut Outputs) -> io::Result<()> {
     let two = [1u32, 2];
-    let most = [MOST - 1, 1];
-    let more = [MOST, 1];
-    voters(to, b"sum 18446744073709551615", &two, &most)?;
-    voters(to, b"one more", &two, &more)?;
+    let most = [u64::MAX - 1, 1];
+    let more = [u64::MAX, 1];
+    voters(to, "sum 18446744073709551615", VoterSet::new(&two, &most))?;
+    voters(to, "one more", VoterSet::new(&two, &more))?;
     let many = IDS;
     let ones = [1u64; 65];
-    voters(to, b"64 ids", &many[..64], &ones[..64])?;
-    voters(to, b"65 ids", &many, &ones)?;
-    let zeros = [0u64; 2];
-    voters(to, b"no weight", &two, &zeros)?;
-    voters(to, b"two ids, 65 weights", &two, &ones)
+    voters(to, "64 ids", VoterSet::new(&many[..64], &ones[..64]))?;
+    voters(to, "65 ids", VoterSet::new(&many, &ones))?;
+    voters(to, "no weight", VoterSet::new(&two, &[0, 0]))?;
+    voters(to, "two ids, 65 weights", VoterSet::new(&two, &ones))
 }
 
-fn primary(to: Outputs) -> Result<()> {
-    let four = [1u32, 2, 3, 4];
-    let ones = [1u64; 4];
-    let made = VoterSet::new(&four, &ones);
-    let set = made.voters;
-    let Some((id, voter)) = set.nth_mod(7) else {
-        return say(to, b"round 7: no primary\n");
+fn primary(to: &mut Outputs) -> io::Result<()> {
+    let set = VoterSet::new(&[1, 2, 3, 4], &[1; 4]);
+    let Some((id, voter)) = set.ok().and_then(|set| set.nth_mod(7)) else {
+        return writeln!(to, "round 7: no primary");
     };
-    say_number(to, b"round 7, voters 1 to 4: primary voter ", id as u64)?;
-    say_number(to, b" at place ", voter.position() as u64)?;
-    say(to, b"\n")
+    let place = voter.position();
+    writeln!(
+        to,
+        "round 7, voters 1 to 4: primary voter {id} at place {place}"
+    )
 }
 
-fn places(to: Outputs) -> Result<()> {
+fn places(to: &mut Outputs) -> io::Result<()> {
     let many = IDS;
-    let ones = [1u64; 64];
-    let made = VoterSet::new(&many[..64], &ones);
-    let set = made.voters;
-    bit(to, b"place 0 prevote", set, 0, Phase::Prevote)?;
-    bit(to, b"place 32 prevote", set, 32, Phase::Prevote)?;
-    bit(to, b"place 63 precommit", set, 63, Phase::Precommit)
+    let set = VoterSet::new(&many[..64], &[1; 64]).ok();
+    let voter = |id| set.and_then(|set| set.get(id));
+    bit(to, "place 0 prevote", voter(0), Phase::Prevote)?;
+    bit(to, "place 32 prevote", voter(32), Phase::Prevote)?;
+    bit(to, "place 63 precommit", voter(63), Phase::Precommit)
 }
 
-fn run(to: Outputs) -> Result<()> {
+fn run(to: &mut Outputs) -> io::Result<()> {
     thresholds(to)?;
     lists(to)?;
     primary(to)?;
@@ -120,7 +89,10 @@ fn run(to: Outputs) -> Result<()> {
 
 // Why an output was not written has been said.
 fn main(rt: HostRuntime) {
-    let out = rt.stdout();
-    let error = rt.stderr();
-    let _ = run(Outputs { out, error });
+    let mut to = Outputs {
+        out: rt.stdout(),
+        error: rt.stderr(),
+        program: "numbers",
+    };
+    let _ = run(&mut to);
 }

@@ -1,229 +1,115 @@
 // Replays the recorded answers of the Rust: each journal goes in by pieces of another size, and its lines must be those recorded.
 #![tactic(auto)]
 
-ghost use Rattle.std.specs.Prelude.{◌≡◌, ◌≤◌, min, length as length_of};
+ghost use Rattle.std.specs.Prelude.{◌≤◌, length as length_of, IfOk};
 
 use feeding::Replay;
-use std::io::{Result, Stdin};
+use std::io::{Result, Stdin, Write};
 use streams::{Moved, Outputs};
 
-// Bytes of standard input that were put into a space, unless reading failed.
-#[derive(Clone, Copy)]
-struct Got {
-    bytes: usize,
-    moved: Moved,
-}
-
-#[derive(Clone, Copy)]
-struct Piece {
-    replay: Replay,
-    left: usize,
-    moved: Moved,
-}
-
-// A length, where its four bytes are there.
-#[derive(Clone, Copy)]
-struct Length {
-    length: usize,
-    whole: bool,
-    moved: Moved,
-}
+// The pieces of a journal have at most so many bytes.
+const LONGEST: usize = 97;
 
 // What a list has told so far.
 #[derive(Clone, Copy)]
 struct Tally {
     journals: u64,
     equal: u64,
-    more: bool,
-    moved: Moved,
 }
 
-fn least(a: usize, b: usize) -> usize
-    ensures { result ≡ min a b }
+// The next bytes of standard input, as many as a space takes or the input still has.
+fn read(mut input: Stdin, space: &mut [u8]) -> Result<usize>
+    ensures { IfOk result (λ n. n ≤ length_of space.new) }
 {
-    if a < b { a } else { b }
+    let moved = streams::read(&mut input, space)?;
+    Ok(streams::count(Ok(moved), space))
 }
 
-// Length bytes as a number, the lowest first.
-fn number(bytes: [u8; 4]) -> usize {
-    marks::word(&bytes, 0) as usize
-}
-
-// The next bytes of standard input, at most so many.
-fn read(mut input: Stdin, out: &mut [u8], length: usize) -> Got
-    ensures { result.bytes ≤ length_of out.new }
-{
-    let wanted = least(length, out.len());
-    let moved = streams::read(&mut input, &mut out[..wanted]);
-    let bytes = least(streams::count(moved, &out[..wanted]), out.len());
-    Got { bytes, moved }
-}
-
-// The next piece of a journal of which so many bytes are left.
-fn turn(input: Stdin, before: Replay, left: usize, size: usize) -> Piece {
-    let mut space = [0u8; 97];
-    let got = read(input, &mut space, least(left, size));
-    let bytes = got.bytes;
-    let fed = before.feed(&space[..bytes]);
-    let replay = fed.replay;
-    let moved = got.moved;
-    if left < bytes {
-        return Piece {
-            replay,
-            left: 0,
-            moved,
-        };
-    }
-    Piece {
-        replay,
-        left: left - bytes,
-        moved,
-    }
-}
-
-fn read_journal(input: Stdin, length: usize, size: usize) -> Piece {
-    let mut piece = Piece {
-        replay: Replay::new(),
-        left: length,
-        moved: Moved::All,
-    };
-    for _ in 0..length {
-        piece = turn(input, piece.replay, piece.left, size);
-        if piece.left == 0 {
-            break;
-        }
-        if streams::failed(piece.moved) {
-            break;
-        }
-    }
-    piece
-}
-
-// Two texts in arrays, each with its length.
-fn same(a: &[u8; 512], size: usize, b: &[u8; 512], other: usize) -> bool {
-    if size != other {
-        return false;
-    }
-    for k in 0..512 {
-        if size <= k {
-            return true;
-        }
-        if a[k] != b[k] {
-            return false;
-        }
-    }
-    true
-}
-
-// The lines of a replay.
-fn lines(replay: Replay, out: &mut [u8; 512]) -> usize {
-    let Ok(size) = report::print(replay, out) else {
-        return 0;
-    };
-    least(size, 512)
-}
-
-// What the recorded lines, which are read here, say of a replay.
-fn compared(input: Stdin, before: Tally, replay: Replay, length: usize) -> Tally {
-    let mut recorded = [0u8; 512];
-    let mut told = [0u8; 512];
-    let got = read(input, &mut recorded, length);
-    let size = lines(replay, &mut told);
-    let equal = same(&told, size, &recorded, got.bytes);
-    Tally {
-        journals: next(before.journals, true),
-        equal: next(before.equal, equal),
-        more: true,
-        moved: got.moved,
-    }
-}
-
-fn read_length(input: Stdin) -> Length {
+// A length, where its four bytes are there, the lowest first.
+fn read_length(mut input: Stdin) -> Result<Option<usize>> {
     let mut bytes = [0u8; 4];
-    let got = read(input, &mut bytes, 4);
-    Length {
-        length: number(bytes),
-        whole: got.bytes == 4,
-        moved: got.moved,
+    match streams::read(&mut input, &mut bytes)? {
+        Moved::All => Ok(Some(u32::from_le_bytes(bytes) as usize)),
+        Moved::Part(_) => Ok(None),
     }
 }
 
-// A list that is at its end, or was not read on.
-fn over(before: Tally, moved: Moved) -> Tally {
-    Tally {
-        journals: before.journals,
-        equal: before.equal,
-        more: false,
-        moved,
+// A journal of so many bytes, by pieces of a size.
+fn read_journal(input: Stdin, length: usize, size: usize) -> Result<Replay>
+    requires { size ≤ 97 }
+{
+    let mut space = [0u8; LONGEST];
+    let mut replay = Replay::new();
+    let mut left = length;
+    while left != 0 {
+        let got = read(input, &mut space[..left.min(size)])?;
+        if got == 0 {
+            break;
+        }
+        replay = replay.feed(&space[..got]).replay;
+        left -= got;
     }
+    Ok(replay)
 }
 
-// One journal of the list, and its recorded lines.
-fn entry(input: Stdin, before: Tally) -> Tally {
-    let journal = read_length(input);
-    if !journal.whole {
-        return over(before, journal.moved);
-    }
-    let answer = read_length(input);
-    if !answer.whole {
-        return over(before, answer.moved);
-    }
-    let size = 1 + (before.journals % 97) as usize;
-    let piece = read_journal(input, journal.length, size);
-    if streams::failed(piece.moved) {
-        return over(before, piece.moved);
-    }
-    compared(input, before, piece.replay, answer.length)
+// Whether the recorded lines, which are read here, are those of a replay.
+fn is_told(input: Stdin, replay: Replay, length: usize) -> Result<bool> {
+    let mut recorded = [0u8; 512];
+    let wanted = length.min(recorded.len());
+    let got = read(input, &mut recorded[..wanted])?;
+    let mut out = [0u8; 512];
+    let told = journal_lines::of(replay, &mut out).unwrap_or(&[]);
+    Ok(told == &recorded[..got])
 }
 
-fn next(count: u64, more: bool) -> u64 {
-    if !more {
-        return count;
-    }
-    if 1000000 <= count {
-        return count;
-    }
-    count + 1
+// One journal of the list and its recorded lines, unless the list ends.
+fn entry(input: Stdin, before: Tally) -> Result<Option<Tally>> {
+    let Some(journal) = read_length(input)? else {
+        return Ok(None);
+    };
+    let Some(answer) = read_length(input)? else {
+        return Ok(None);
+    };
+    let size = 1 + before.journals as usize % LONGEST;
+    let replay = read_journal(input, journal, size)?;
+    let equal = is_told(input, replay, answer)?;
+    Ok(Some(Tally {
+        journals: before.journals.saturating_add(1),
+        equal: before.equal.saturating_add(u64::from(equal)),
+    }))
 }
 
-fn entries(input: Stdin) -> Tally {
+// At most a million entries.
+fn entries(input: Stdin) -> Result<Tally> {
     let mut tally = Tally {
         journals: 0,
         equal: 0,
-        more: true,
-        moved: Moved::All,
     };
-    for _ in 0..1000000u64 {
-        tally = entry(input, tally);
-        if !tally.more {
+    for _ in 0..1000000 {
+        let Some(more) = entry(input, tally)? else {
             break;
-        }
-        if streams::failed(tally.moved) {
-            break;
-        }
+        };
+        tally = more;
     }
-    tally
+    Ok(tally)
 }
 
-fn say_number(to: Outputs, n: u64, words: &[u8]) -> Result<()> {
-    streams::say_number(to, b"oracle_list: standard output", n)?;
-    streams::say(to, b"oracle_list: standard output", words)
-}
-
-fn run(input: Stdin, to: Outputs) -> Result<()> {
-    let tally = entries(input);
-    let moved = tally.moved;
-    if streams::failed(moved) {
-        streams::unread(to, b"oracle_list: standard input", moved);
-        return Ok(());
+fn run(input: Stdin, mut to: Outputs) -> Result<()> {
+    match entries(input) {
+        Ok(Tally { journals, equal }) => writeln!(to, "{journals} journals, {equal} equal"),
+        Err(why) => {
+            to.unread(Err(why));
+            Ok(())
+        }
     }
-    say_number(to, tally.journals, b" journals, ")?;
-    say_number(to, tally.equal, b" equal\n")
 }
 
 // Why an output was not written has been said.
 fn main(rt: HostRuntime) {
-    let out = rt.stdout();
-    let error = rt.stderr();
-    let _ = run(rt.stdin(), Outputs { out, error });
+    let to = Outputs {
+        out: rt.stdout(),
+        error: rt.stderr(),
+        program: "oracle_list",
+    };
+    let _ = run(rt.stdin(), to);
 }

@@ -7,66 +7,64 @@ use feeding::Replay;
 use std::io::{Result, Stdin};
 use streams::{Moved, Outputs};
 
+// A replay after a piece of its journal, and how the piece was read.
 #[derive(Clone, Copy)]
 struct Piece {
     replay: Replay,
-    moved: Moved,
+    read: Result<Moved>,
 }
 
 // One more piece of a journal, as it was read.
-fn fed(before: Replay, moved: Moved, space: &[u8]) -> Piece
-    ensures { result.moved ≡ moved }
+fn fed(before: Replay, read: Result<Moved>, space: &[u8]) -> Piece
+    ensures { result.read ≡ read }
 {
-    let got = streams::count(moved, space);
-    let fed = before.feed(&space[..got]);
-    let replay = fed.replay;
-    Piece { replay, moved }
+    let got = streams::count(read, space);
+    let replay = before.feed(&space[..got]).replay;
+    Piece { replay, read }
 }
 
 // The next piece of standard input.
-fn turn(mut input: Stdin, before: Replay) -> Piece {
+fn next(mut input: Stdin, before: Replay) -> Piece {
     let mut space = io::large_buffer();
-    let moved = streams::read(&mut input, &mut space);
-    fed(before, moved, &space)
+    let read = streams::read(&mut input, &mut space);
+    fed(before, read, &space)
 }
 
-// No input has more pieces.
+// An input may have no end, so nothing but the count of pieces shows that this ends; no input has as many as are counted.
 fn read_all(input: Stdin) -> Piece {
     let mut replay = Replay::new();
-    for _ in 0..18446744073709551615u64 {
-        let next = turn(input, replay);
-        replay = next.replay;
-        let moved = next.moved;
-        let Moved::All = moved else {
-            return Piece { replay, moved };
+    for _ in 0..u64::MAX {
+        let piece = next(input, replay);
+        let Ok(Moved::All) = piece.read else {
+            return piece;
         };
+        replay = piece.replay;
     }
     Piece {
         replay,
-        moved: Moved::All,
+        read: Ok(Moved::All),
     }
 }
 
 fn run(input: Stdin, to: Outputs) -> Result<()> {
+    let Piece { replay, read } = read_all(input);
+    let Ok(Moved::Part(_)) = read else {
+        to.unread(read);
+        return Ok(());
+    };
     let mut out = [0u8; 512];
-    let read = read_all(input);
-    let moved = read.moved;
-    let Moved::Part(_) = moved else {
-        streams::unread(to, b"replay: standard input", moved);
+    let Some(lines) = journal_lines::of(replay, &mut out) else {
         return Ok(());
     };
-    let Ok(size) = report::print(read.replay, &mut out) else {
-        return Ok(());
-    };
-    if 512 < size {
-        return Ok(());
-    }
-    streams::tell(to, b"replay: standard output", moved, &out[..size])
+    to.tell(read, lines)
 }
 
 // Why an output was not written has been said.
 fn main(rt: HostRuntime) {
-    let out = rt.stdout();
-    let error = rt.stderr();
-    let _ = run(rt.stdin(), Outputs { out, error });
+    let to = Outputs {
+        out: rt.stdout(),
+        error: rt.stderr(),
+        program: "replay",
+    };
+    let _ = run(rt.stdin(), to);
 }

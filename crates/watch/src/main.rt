@@ -8,104 +8,90 @@ use feeding::Replay;
 use std::io::{Result, Stdin};
 use streams::{Moved, Outputs};
 
+// A replay after a piece of its journal, and how the piece was read.
 #[derive(Clone, Copy)]
 struct Piece {
     replay: Replay,
-    moved: Moved,
+    read: Result<Moved>,
 }
 
-// The answers of a replay: its lines but for the last, `tail 0`, which has seven bytes.
+// The bytes of a replay's last line, where no byte is left.
+const TAIL: usize = b"tail 0\n".len();
+
+// The answers of a replay: its lines but for the last.
 fn print(to: Outputs, replay: Replay) -> Result<()> {
     let mut out = [0u8; 512];
-    let Ok(size) = report::print(replay, &mut out) else {
+    let Some(lines) = journal_lines::of(replay, &mut out) else {
         return Ok(());
     };
-    if 512 < size {
+    let Some(shown) = lines.len().checked_sub(TAIL) else {
         return Ok(());
-    }
-    if size < 7 {
-        return Ok(());
-    }
-    let shown = size - 7;
-    streams::say(to, b"watch: standard output", &out[..shown])
+    };
+    to.say(&lines[..shown])
 }
 
-// A record of a mark that begins with 'P' is a vote; after it no byte is left, so that the last line is `tail 0`.
+// A record of a mark that begins with 'P' is a vote; after it no byte is left.
 fn step(to: Outputs, before: Replay, byte: u8) -> Result<Replay> {
-    let rest = before.rest;
-    let bytes = rest.bytes;
-    let piece = [byte];
-    let fed = before.feed(&piece);
-    let replay = fed.replay;
-    if bytes[0] == b'P' {
-        if before.records < replay.records {
-            print(to, replay)?;
-        }
-    }
-    Ok(replay)
-}
-
-fn steps(to: Outputs, before: Replay, bytes: &[u8]) -> Result<Replay> {
-    let mut replay = before;
-    for at in 0..bytes.len() {
-        replay = step(to, replay, bytes[at])?;
+    let replay = before.feed(&[byte]).replay;
+    if before.rest.bytes[0] == b'P' && before.records < replay.records {
+        print(to, replay)?;
     }
     Ok(replay)
 }
 
 // One more piece of a journal, as it was read.
-fn stepped(to: Outputs, before: Replay, moved: Moved, space: &[u8]) -> Result<Piece>
-    ensures { IfOk result (λ piece. piece.moved ≡ moved) }
+fn stepped(to: Outputs, before: Replay, read: Result<Moved>, space: &[u8]) -> Result<Piece>
+    ensures { IfOk result (λ piece. piece.read ≡ read) }
 {
-    let got = streams::count(moved, space);
-    let replay = steps(to, before, &space[..got])?;
-    Ok(Piece { replay, moved })
+    let mut replay = before;
+    for byte in &space[..streams::count(read, space)] {
+        replay = step(to, replay, *byte)?;
+    }
+    Ok(Piece { replay, read })
 }
 
 // The next piece of standard input.
-fn turn(mut input: Stdin, to: Outputs, before: Replay) -> Result<Piece> {
+fn next(mut input: Stdin, to: Outputs, before: Replay) -> Result<Piece> {
     let mut space = io::buffer();
-    let moved = streams::read(&mut input, &mut space);
-    stepped(to, before, moved, &space)
+    let read = streams::read(&mut input, &mut space);
+    stepped(to, before, read, &space)
 }
 
-// No input has more pieces.
+// An input may have no end, so nothing but the count of pieces shows that this ends; no input has as many as are counted.
 fn read_all(input: Stdin, to: Outputs) -> Result<Piece> {
     let mut replay = Replay::new();
-    for _ in 0..18446744073709551615u64 {
-        let next = turn(input, to, replay)?;
-        replay = next.replay;
-        let moved = next.moved;
-        let Moved::All = moved else {
-            return Ok(Piece { replay, moved });
+    for _ in 0..u64::MAX {
+        let piece = next(input, to, replay)?;
+        let Ok(Moved::All) = piece.read else {
+            return Ok(piece);
         };
+        replay = piece.replay;
     }
     Ok(Piece {
         replay,
-        moved: Moved::All,
+        read: Ok(Moved::All),
     })
 }
 
 fn run(input: Stdin, to: Outputs) -> Result<()> {
+    let Piece { replay, read } = read_all(input, to)?;
+    let Ok(Moved::Part(_)) = read else {
+        to.unread(read);
+        return Ok(());
+    };
     let mut out = [0u8; 512];
-    let read = read_all(input, to)?;
-    let moved = read.moved;
-    let Moved::Part(_) = moved else {
-        streams::unread(to, b"watch: standard input", moved);
+    let Some(lines) = journal_lines::of(replay, &mut out) else {
         return Ok(());
     };
-    let Ok(size) = report::print(read.replay, &mut out) else {
-        return Ok(());
-    };
-    if 512 < size {
-        return Ok(());
-    }
-    streams::tell(to, b"watch: standard output", moved, &out[..size])
+    to.tell(read, lines)
 }
 
 // Why an output was not written has been said.
 fn main(rt: HostRuntime) {
-    let out = rt.stdout();
-    let error = rt.stderr();
-    let _ = run(rt.stdin(), Outputs { out, error });
+    let to = Outputs {
+        out: rt.stdout(),
+        error: rt.stderr(),
+        program: "watch",
+    };
+    let _ = run(rt.stdin(), to);
 }
