@@ -22,12 +22,10 @@ fn voted(
         number,
         signature,
     };
-    let made = match phase {
-        Phase::Prevote => round.import_prevote(signer, pair),
-        Phase::Precommit => round.import_precommit(signer, pair),
-    };
-    let after = made.round;
-    after
+    match phase {
+        Phase::Prevote => round.import_prevote(signer, pair).round,
+        Phase::Precommit => round.import_precommit(signer, pair).round,
+    }
 }
 
 fn prevoted(round: Round, signer: u32, target: u32) -> Round {
@@ -39,20 +37,20 @@ fn precommitted(round: Round, signer: u32, target: u32, number: u32, signature: 
 }
 
 fn grown(round: Round, id: u32, parent: u32) -> Round {
-    let made = round.add_block(id, parent);
-    let after = made.round;
-    after
+    round.add_block(id, parent).round
+}
+
+// Nobody where the lists are refused.
+fn made_voters(ids: &[u32], weights: &[u64]) -> VoterSet {
+    VoterSet::new(ids, weights).unwrap_or(round::nobody())
 }
 
 // Voters 1 to 4 of weight 1, round 7 on the root 10 of number 0.
 fn start() -> Round {
     let ids = [1u32, 2, 3, 4];
     let weights = [1u64; 4];
-    let made = VoterSet::new(&ids, &weights);
-    let voters = made.voters;
-    let kept = Round::new(7, voters, block_table::new(10, 0), 10);
-    let round = kept.round;
-    round
+    let voters = made_voters(&ids, &weights);
+    Round::new(7, voters, block_table::new(10, 0), 10).round
 }
 
 // Document 01, "The journal".
@@ -90,9 +88,7 @@ fn many_voters() -> VoterSet {
         ids[k] = signer_of(k);
         weights[k] = 1 + (7 * k % 5) as u64;
     }
-    let made = VoterSet::new(&ids, &weights);
-    let voters = made.voters;
-    voters
+    made_voters(&ids, &weights)
 }
 
 // Blocks 0 to 47: a line of every third place, each with two blocks beside the next of the line. Then one under the base, place 5, and
@@ -108,13 +104,11 @@ fn parent_of(place: usize) -> usize {
     if place < 3 {
         return 0;
     }
-    if place == 48 {
-        return 5;
+    match place {
+        48 => 5,
+        49 => 0,
+        _ => place - 1 - place % 3,
     }
-    if place == 49 {
-        return 0;
-    }
-    place - 1 - place % 3
 }
 
 fn number_of(place: usize) -> u32 {
@@ -138,8 +132,7 @@ fn many_opened() -> Round {
 fn many_blocks(from: Round, start: usize, end: usize) -> Round {
     let mut round = from;
     for k in start..end {
-        let next = grown(round, id_of(k), id_of(parent_of(k)));
-        round = next;
+        round = grown(round, id_of(k), id_of(parent_of(k)));
     }
     round
 }
@@ -178,8 +171,7 @@ fn with_vote(round: Round, phase: Phase, voter: usize) -> Round {
 fn many_votes(from: Round, phase: Phase) -> Round {
     let mut round = from;
     for voter in 0..64 {
-        let next = with_vote(round, phase, voter);
-        round = next;
+        round = with_vote(round, phase, voter);
     }
     round
 }
@@ -204,8 +196,5 @@ pub fn many() -> [u64; SIZE] {
     let round = many_votes(kept.round, Phase::Precommit);
     let round = again(again(round, Phase::Precommit, 5), Phase::Precommit, 25);
     let kept = again(round, Phase::Precommit, 45).set_precommitted_index();
-    let round = kept.round;
-    let asked = round.precommit_ghost();
-    let round = asked.round;
-    round_words::words_of(round)
+    round_words::words_of(kept.round.precommit_ghost().round)
 }
