@@ -3,10 +3,8 @@
 // This serves the program `damaged`, which is judged by its stored output: the functions are proved safe and ending, and promise no more.
 #![tactic(auto)]
 
-use context::Phase;
-use judging::ImportResult;
 use refusals::Refusal;
-use round::Round;
+use round::{After, Round};
 use round_words::SIZE;
 use sizes::HISTORY;
 use tracker::Pair;
@@ -36,17 +34,9 @@ fn is_nine<A: Drop>(answer: Result<A, Refusal>) -> u64 {
     }
 }
 
-// `is_round` says no where the others say 9.
-fn of_test(answer: bool) -> u64 {
-    if answer {
-        return 0;
-    }
-    1
-}
-
 // Sums that cannot wrap, written so that nobody has to show it.
 pub fn plus(a: u64, b: u64) -> u64 {
-    std::num::wrapping_add_u64(a, b)
+    a.wrapping_add(b)
 }
 
 fn of_numbers(round: Round) -> u64 {
@@ -76,112 +66,67 @@ fn of_voters(round: Round) -> u64 {
     plus(first, plus(prevotes, precommits))
 }
 
-// `is_round` and `two_views`, with the round on either side.
+// `is_round`, which says no where the others say 9, and `two_views`, with the round on either side.
 fn of_tests(round: Round, good: Round) -> u64 {
     let one = is_nine(two_views::two_views(round, good));
     let other = is_nine(two_views::two_views(good, round));
-    plus(of_test(round.is_round()), plus(one, other))
+    plus(u64::from(!round.is_round()), plus(one, other))
 }
 
-// Whether a round that was handed back is another than the one of these words.
-fn moved(words: &[u64; SIZE], after: Round) -> u64 {
-    let has = round_words::words_of(after);
-    if round_words::same(words, &has) {
-        return 0;
-    }
-    1
-}
-
-// A call's nine, and the round that it handed back.
-#[derive(Clone, Copy)]
-struct Back {
-    nine: u64,
-    round: Round,
-}
-
-fn imported(round: Round, phase: Phase) -> Back {
-    let pair = Pair {
-        target: 12,
-        number: 2,
-        signature: 8,
-    };
-    let made = match phase {
-        Phase::Prevote => round.import_prevote(2, pair),
-        Phase::Precommit => round.import_precommit(2, pair),
-    };
-    let answer = made.answer;
-    let after = made.round;
-    Back {
-        nine: is_nine(answer),
-        round: after,
-    }
-}
-
-fn marked(round: Round, phase: Phase) -> Back {
-    let made = match phase {
-        Phase::Prevote => round.set_prevoted_index(),
-        Phase::Precommit => round.set_precommitted_index(),
-    };
-    let answer = made.answer;
-    let after = made.round;
-    Back {
-        nine: is_nine(answer),
-        round: after,
-    }
-}
-
-fn added(round: Round) -> Back {
-    let made = round.add_block(77, 10);
-    let answer = made.answer;
-    let after = made.round;
-    Back {
-        nine: is_nine(answer),
-        round: after,
-    }
-}
-
-fn sought(round: Round) -> Back {
-    let made = round.precommit_ghost();
-    let answer = made.answer;
-    let after = made.round;
-    Back {
-        nine: is_nine(answer),
-        round: after,
-    }
-}
-
-fn counted(back: Back, words: &[u64; SIZE]) -> Tally {
-    let after = back.round;
+// A call that hands a round back: whether it is another than the one of these words counts as changed.
+fn counted<A: Drop>(after: After<Result<A, Refusal>>, words: &[u64; SIZE]) -> Tally {
+    let After { answer, round } = after;
+    let has = round_words::words_of(round);
     Tally {
-        nines: back.nine,
-        changed: moved(words, after),
+        nines: is_nine(answer),
+        changed: u64::from(has != *words),
     }
+}
+
+const PAIR: Pair = Pair {
+    target: 12,
+    number: 2,
+    signature: 8,
+};
+
+// The six calls that hand a round back.
+fn of_steps(round: Round, words: &[u64; SIZE]) -> Tally {
+    let prevote = counted(round.import_prevote(2, PAIR), words);
+    let votes = both(prevote, counted(round.import_precommit(2, PAIR), words));
+    let prevote = counted(round.set_prevoted_index(), words);
+    let marks = both(prevote, counted(round.set_precommitted_index(), words));
+    let added = counted(round.add_block(77, 10), words);
+    let rest = both(added, counted(round.precommit_ghost(), words));
+    both(both(votes, marks), rest)
 }
 
 // A record of 22 bytes for each entry of history: room for any list.
 const ROOM: usize = 22 * HISTORY;
 
-// Whether a lent buffer no longer has what was put there.
-fn spoiled(out: &[u8; ROOM]) -> u64 {
-    for k in 0..ROOM {
-        if out[k] != 165 {
-            return 1;
-        }
-    }
-    0
+// What a buffer has in every byte before it is lent.
+const FILL: u8 = 165;
+
+// The lists that are written into a lent buffer.
+#[derive(Clone, Copy)]
+enum List {
+    Prevotes,
+    Precommits,
+    Historical,
+    Finalizing,
 }
 
-fn written(round: Round, list: u8) -> Tally {
-    let mut out = [165u8; ROOM];
+// A call that is lent a buffer: whether that no longer has what was put there counts as changed.
+fn written(round: Round, list: List) -> Tally {
+    let mut out = [FILL; ROOM];
     let answer = match list {
-        0 => round.prevotes(&mut out),
-        1 => round.precommits(&mut out),
-        2 => round.historical_votes(&mut out),
-        _ => round.finalizing_precommits(&mut out),
+        List::Prevotes => round.prevotes(&mut out),
+        List::Precommits => round.precommits(&mut out),
+        List::Historical => round.historical_votes(&mut out),
+        List::Finalizing => round.finalizing_precommits(&mut out),
     };
     Tally {
         nines: is_nine(answer),
-        changed: spoiled(&out),
+        changed: u64::from(out.iter().any(|byte| *byte != FILL)),
     }
 }
 
@@ -192,20 +137,19 @@ fn both(one: Tally, other: Tally) -> Tally {
     }
 }
 
-// The six calls that hand a round back.
-fn of_steps(round: Round, words: &[u64; SIZE]) -> Tally {
-    let prevote = counted(imported(round, Phase::Prevote), words);
-    let votes = both(prevote, counted(imported(round, Phase::Precommit), words));
-    let prevote = counted(marked(round, Phase::Prevote), words);
-    let marks = both(prevote, counted(marked(round, Phase::Precommit), words));
-    let rest = both(counted(added(round), words), counted(sought(round), words));
-    both(both(votes, marks), rest)
-}
-
 // The four calls that are lent a buffer.
 fn of_lists(round: Round) -> Tally {
-    let votes = both(written(round, 0), written(round, 1));
-    both(votes, both(written(round, 2), written(round, 3)))
+    let votes = both(
+        written(round, List::Prevotes),
+        written(round, List::Precommits),
+    );
+    both(
+        votes,
+        both(
+            written(round, List::Historical),
+            written(round, List::Finalizing),
+        ),
+    )
 }
 
 // All calls on a round of these words.
@@ -224,9 +168,7 @@ fn of_new(round: Round, base: u32) -> u64 {
     let context = round.context;
     let voters = context.voters;
     let table = round.table;
-    let made = Round::new(round.number, voters, table, base);
-    let answer = made.answer;
-    is_nine(answer)
+    is_nine(Round::new(round.number, voters, table, base).answer)
 }
 
 // What the calls say of the round of a damaged one's words, and `new` of its voters and table, on the block that is the base of the good

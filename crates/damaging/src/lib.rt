@@ -3,6 +3,8 @@
 // This serves the program `damaged`, which is judged by its stored output: the functions are proved safe and ending, and promise no more.
 #![tactic(auto)]
 
+ghost use Rattle.std.specs.Prelude.{◌<◌, ◌≤◌};
+
 use asked::Asked;
 use round_words::SIZE;
 
@@ -22,47 +24,30 @@ pub enum Kind {
 // How many wrong values are tried at a place.
 fn ways(kind: Kind) -> usize {
     match kind {
-        Kind::Byte => 3,
-        Kind::Entry => 3,
-        Kind::Number => 3,
-        Kind::Word => 3,
-        Kind::Count(size) => 6,
+        Kind::Byte | Kind::Entry | Kind::Number | Kind::Word => 3,
+        Kind::Count(_) | Kind::Index => 6,
         Kind::Flag => 2,
-        Kind::Index => 6,
         Kind::Block => 257,
     }
 }
 
-// One more, one less, or the highest bit turned.
-fn byte(x: u64, way: usize) -> u64 {
+// One more, one less, or the highest bit turned, in a field of so many values.
+fn narrow(x: u64, values: u64, way: usize) -> u64
+    requires lower { 1 < values }
+    requires upper { values ≤ 4294967296 }
+{
     match way {
-        0 => (x % 256 + 1) % 256,
-        1 => (x % 256 + 255) % 256,
-        _ => (x % 256 + 128) % 256,
-    }
-}
-
-fn entry(x: u64, way: usize) -> u64 {
-    match way {
-        0 => (x % 65536 + 1) % 65536,
-        1 => (x % 65536 + 65535) % 65536,
-        _ => (x % 65536 + 32768) % 65536,
-    }
-}
-
-fn number(x: u64, way: usize) -> u64 {
-    match way {
-        0 => (x % 4294967296 + 1) % 4294967296,
-        1 => (x % 4294967296 + 4294967295) % 4294967296,
-        _ => (x % 4294967296 + 2147483648) % 4294967296,
+        0 => (x % values + 1) % values,
+        1 => (x % values + (values - 1)) % values,
+        _ => (x % values + values / 2) % values,
     }
 }
 
 fn word(x: u64, way: usize) -> u64 {
     match way {
-        0 => std::num::wrapping_add_u64(x, 1),
-        1 => std::num::wrapping_sub_u64(x, 1),
-        _ => std::num::wrapping_add_u64(x, 9223372036854775808),
+        0 => x.wrapping_add(1),
+        1 => x.wrapping_sub(1),
+        _ => x.wrapping_add(9223372036854775808),
     }
 }
 
@@ -71,7 +56,7 @@ fn count(x: u64, size: u64, way: usize) -> u64 {
     match way {
         3 => 0,
         4 => size,
-        5 => std::num::wrapping_add_u64(size, 1),
+        5 => size.wrapping_add(1),
         _ => word(x, way),
     }
 }
@@ -79,32 +64,31 @@ fn count(x: u64, size: u64, way: usize) -> u64 {
 // None, small ones, the largest that fits, and larger ones.
 fn index(way: usize) -> u64 {
     match way {
-        0 => 18446744073709551615,
+        0 => u64::MAX,
         1 => 0,
         2 => 1,
         3 => 256,
         4 => 257,
-        _ => 18446744073709551614,
+        _ => u64::MAX - 1,
     }
 }
 
 // A flag takes both values, a stored block every place and none: what stands there already is left out by the caller.
 fn value(kind: Kind, x: u64, way: usize) -> u64 {
     match kind {
-        Kind::Byte => byte(x, way),
-        Kind::Entry => entry(x, way),
-        Kind::Number => number(x, way),
+        Kind::Byte => narrow(x, 256, way),
+        Kind::Entry => narrow(x, 65536, way),
+        Kind::Number => narrow(x, 4294967296, way),
         Kind::Word => word(x, way),
         Kind::Count(size) => count(x, size, way),
-        Kind::Flag => way as u64,
+        Kind::Flag | Kind::Block => way as u64,
         Kind::Index => index(way),
-        Kind::Block => way as u64,
     }
 }
 
 // How many damaged rounds there were, those that every call refused and those that none did; those on which the calls disagreed, and
 // what refusing calls changed; and how many of their voters and tables `new` refused.
-#[derive(Clone, Copy)]
+#[derive(Clone, Copy, Default)]
 pub struct Sums {
     pub damaged: u64,
     pub refused: u64,
@@ -112,17 +96,6 @@ pub struct Sums {
     pub uneven: u64,
     pub changed: u64,
     pub unmade: u64,
-}
-
-fn none() -> Sums {
-    Sums {
-        damaged: 0,
-        refused: 0,
-        passed: 0,
-        uneven: 0,
-        changed: 0,
-        unmade: 0,
-    }
 }
 
 fn both(one: Sums, other: Sums) -> Sums {
@@ -137,32 +110,14 @@ fn both(one: Sums, other: Sums) -> Sums {
 }
 
 fn judged(asked: Asked) -> Sums {
-    if asked.nines == 0 {
-        return Sums {
-            damaged: 1,
-            refused: 0,
-            passed: 1,
-            uneven: 0,
-            changed: 0,
-            unmade: asked.unmade,
-        };
-    }
-    if asked.nines == asked::CALLS {
-        return Sums {
-            damaged: 1,
-            refused: 1,
-            passed: 0,
-            uneven: 0,
-            changed: asked.changed,
-            unmade: asked.unmade,
-        };
-    }
+    let passed = asked.nines == 0;
+    let refused = asked.nines == asked::CALLS;
     Sums {
         damaged: 1,
-        refused: 0,
-        passed: 0,
-        uneven: 1,
-        changed: asked.changed,
+        refused: u64::from(refused),
+        passed: u64::from(passed),
+        uneven: u64::from(!passed && !refused),
+        changed: if passed { 0 } else { asked.changed },
         unmade: asked.unmade,
     }
 }
@@ -170,7 +125,7 @@ fn judged(asked: Asked) -> Sums {
 // One word changed, unless it stays.
 fn changed(good: &[u64; SIZE], at: usize, value: u64) -> Sums {
     if round_words::get(good, at) == value {
-        return none();
+        return Sums::default();
     }
     let mut wrong = *good;
     round_words::put(&mut wrong, at, value);
@@ -178,36 +133,28 @@ fn changed(good: &[u64; SIZE], at: usize, value: u64) -> Sums {
 }
 
 fn place(good: &[u64; SIZE], at: usize, kind: Kind) -> Sums {
-    let mut sums = none();
+    let mut sums = Sums::default();
     for way in 0..ways(kind) {
-        let more = changed(good, at, value(kind, round_words::get(good, at), way));
-        let next = both(sums, more);
-        sums = next;
+        let value = value(kind, round_words::get(good, at), way);
+        sums = both(sums, changed(good, at, value));
     }
     sums
 }
 
 // Every place of a field, each wrong in every way of its kind.
 pub fn places(good: &[u64; SIZE], start: usize, count: usize, kind: Kind) -> Sums {
-    let mut sums = none();
+    let mut sums = Sums::default();
     for k in 0..count {
-        let more = place(good, round_words::after(start, k), kind);
-        let next = both(sums, more);
-        sums = next;
+        sums = both(sums, place(good, round_words::after(start, k), kind));
     }
     sums
 }
 
-fn set<'a>(good: &'a [u64; SIZE], sets: &'a [usize]) -> [u64; SIZE] {
-    let mut wrong = *good;
-    for k in 0..sets.len() / 2 {
-        round_words::put(&mut wrong, sets[2 * k], sets[2 * k + 1] as u64);
-    }
-    wrong
-}
-
 // A list of words by their place in a round and what they become.
-pub fn several<'a>(good: &'a [u64; SIZE], sets: &'a [usize]) -> Sums {
-    let wrong = set(good, sets);
+pub fn several(good: &[u64; SIZE], sets: &[(usize, u64)]) -> Sums {
+    let mut wrong = *good;
+    for (at, word) in sets {
+        round_words::put(&mut wrong, *at, *word);
+    }
     judged(asked::all(good, &wrong))
 }

@@ -89,6 +89,102 @@ pub const COMPLETABLE: usize = ESTIMATE + 1;
 
 pub const SIZE: usize = COMPLETABLE + 1;
 
+// What a word can hold.
+trait Held: Copy {
+    fn word(self) -> u64;
+
+    // The lowest part of a word that is too large.
+    fn of(word: u64) -> Self;
+}
+
+impl Held for u8 {
+    fn word(self) -> u64 {
+        u64::from(self)
+    }
+
+    fn of(word: u64) -> u8 {
+        (word % 256) as u8
+    }
+}
+
+impl Held for u16 {
+    fn word(self) -> u64 {
+        u64::from(self)
+    }
+
+    fn of(word: u64) -> u16 {
+        (word % 65536) as u16
+    }
+}
+
+impl Held for u32 {
+    fn word(self) -> u64 {
+        u64::from(self)
+    }
+
+    fn of(word: u64) -> u32 {
+        (word % 4294967296) as u32
+    }
+}
+
+impl Held for u64 {
+    fn word(self) -> u64 {
+        self
+    }
+
+    fn of(word: u64) -> u64 {
+        word
+    }
+}
+
+impl Held for usize {
+    fn word(self) -> u64 {
+        self as u64
+    }
+
+    fn of(word: u64) -> usize {
+        word as usize
+    }
+}
+
+impl Held for bool {
+    fn word(self) -> u64 {
+        u64::from(self)
+    }
+
+    fn of(word: u64) -> bool {
+        word == 1
+    }
+}
+
+// A stored block.
+impl Held for Option<u8> {
+    fn word(self) -> u64 {
+        match self {
+            Some(place) => u64::from(place),
+            None => 256,
+        }
+    }
+
+    fn of(word: u64) -> Option<u8> {
+        u8::try_from(word).ok()
+    }
+}
+
+// An index of history.
+impl Held for Option<u64> {
+    fn word(self) -> u64 {
+        self.unwrap_or(u64::MAX)
+    }
+
+    fn of(word: u64) -> Option<u64> {
+        if word == u64::MAX {
+            return None;
+        }
+        Some(word)
+    }
+}
+
 pub fn put(flat: &mut [u64; SIZE], at: usize, x: u64) {
     if at < SIZE {
         flat[at] = x;
@@ -104,144 +200,76 @@ pub fn get(flat: &[u64; SIZE], at: usize) -> u64 {
 
 // A place so many after another.
 pub fn after(at: usize, k: usize) -> usize {
-    std::num::wrapping_add_usize(at, k)
+    at.wrapping_add(k)
 }
 
-fn wide(x: u8) -> u64 {
-    x as u64
+fn put_one<H: Held>(flat: &mut [u64; SIZE], at: usize, held: H) {
+    put(flat, at, held.word());
 }
 
-fn wider(x: u32) -> u64 {
-    x as u64
-}
-
-fn entry_word(x: u16) -> u64 {
-    x as u64
-}
-
-fn bit(x: bool) -> u64 {
-    if x {
-        return 1;
-    }
-    0
-}
-
-fn put_bytes(flat: &mut [u64; SIZE], at: usize, column: &[u8]) {
-    for k in 0..column.len() {
-        put(flat, after(at, k), wide(column[k]));
+fn put_all<H: Held>(flat: &mut [u64; SIZE], at: usize, column: &[H]) {
+    for (word, held) in flat.iter_mut().skip(at).zip(column) {
+        *word = held.word();
     }
 }
 
-fn put_numbers(flat: &mut [u64; SIZE], at: usize, column: &[u32]) {
-    for k in 0..column.len() {
-        put(flat, after(at, k), wider(column[k]));
-    }
-}
-
-fn put_entries(flat: &mut [u64; SIZE], at: usize, column: &[u16]) {
-    for k in 0..column.len() {
-        put(flat, after(at, k), entry_word(column[k]));
-    }
-}
-
-fn put_words(flat: &mut [u64; SIZE], at: usize, column: &[u64]) {
-    for k in 0..column.len() {
-        put(flat, after(at, k), column[k]);
-    }
-}
-
-fn put_flags(flat: &mut [u64; SIZE], at: usize, column: &[bool; BLOCKS]) {
-    for k in 0..BLOCKS {
-        put(flat, after(at, k), bit(column[k]));
-    }
-}
-
-// That a row has two words is known of a parameter, and not of what a loop has read.
-fn put_row(flat: &mut [u64; SIZE], at: usize, row: Row) {
-    let bits = row.bits;
-    put(flat, at, bits[0]);
-    put(flat, after(at, 1), bits[1]);
-}
-
-fn put_rows(flat: &mut [u64; SIZE], at: usize, rows: [Row; BLOCKS]) {
+fn put_rows(flat: &mut [u64; SIZE], at: usize, rows: &[Row; BLOCKS]) {
     for k in 0..BLOCKS {
         let row = rows[k];
-        put_row(flat, after(at, 2 * k), row);
+        put_all(flat, after(at, WORDS * k), &row.bits);
     }
 }
 
 fn put_context(flat: &mut [u64; SIZE], context: Context) {
     let voters = context.voters;
-    put_numbers(flat, VOTER_IDS, &voters.ids);
-    put_words(flat, WEIGHTS, &voters.weights);
-    put(flat, VOTER_COUNT, voters.count as u64);
-    put(flat, THRESHOLD, voters.threshold);
-    put(flat, TOTAL, voters.total);
-    let bits = context.equivocations;
-    put_words(flat, EQUIVOCATIONS, &bits);
+    put_all(flat, VOTER_IDS, &voters.ids);
+    put_all(flat, WEIGHTS, &voters.weights);
+    put_one(flat, VOTER_COUNT, voters.count);
+    put_one(flat, THRESHOLD, voters.threshold);
+    put_one(flat, TOTAL, voters.total);
+    put_all(flat, EQUIVOCATIONS, &context.equivocations);
 }
 
 fn put_table(flat: &mut [u64; SIZE], table: BlockTable) {
-    put_numbers(flat, IDS, &table.ids);
-    put_numbers(flat, NUMBERS, &table.numbers);
-    put_bytes(flat, PARENTS, &table.parents);
-    put(flat, BLOCK_COUNT, table.count as u64);
+    put_all(flat, IDS, &table.ids);
+    put_all(flat, NUMBERS, &table.numbers);
+    put_all(flat, PARENTS, &table.parents);
+    put_one(flat, BLOCK_COUNT, table.count);
 }
 
 fn put_graph(flat: &mut [u64; SIZE], graph: VoteGraph) {
-    put(flat, BASE, graph.base as u64);
-    put_flags(flat, USED, &graph.used);
-    put_bytes(flat, ABOVE, &graph.above);
-    let rows = graph.rows;
-    put_rows(flat, ROWS, rows);
-    put_bytes(flat, ORDER, &graph.order);
-    put(flat, LISTED, graph.listed as u64);
-    put_bytes(flat, HEADS, &graph.heads);
-    put(flat, TIPS, graph.tips as u64);
+    put_one(flat, BASE, graph.base);
+    put_all(flat, USED, &graph.used);
+    put_all(flat, ABOVE, &graph.above);
+    put_rows(flat, ROWS, &graph.rows);
+    put_all(flat, ORDER, &graph.order);
+    put_one(flat, LISTED, graph.listed);
+    put_all(flat, HEADS, &graph.heads);
+    put_one(flat, TIPS, graph.tips);
 }
 
 fn put_votes(flat: &mut [u64; SIZE], votes: Votes) {
-    put_bytes(flat, COUNTS, &votes.counts);
-    put_bytes(flat, FIRST_BLOCK, &votes.first_block);
-    put_words(flat, FIRST_SIGNATURE, &votes.first_signature);
-    put_numbers(flat, SECOND_TARGET, &votes.second_target);
-    put_numbers(flat, SECOND_NUMBER, &votes.second_number);
-    put_words(flat, SECOND_SIGNATURE, &votes.second_signature);
-}
-
-fn index_word(index: Option<u64>) -> u64 {
-    match index {
-        Some(seen) => seen,
-        None => 18446744073709551615,
-    }
+    put_all(flat, COUNTS, &votes.counts);
+    put_all(flat, FIRST_BLOCK, &votes.first_block);
+    put_all(flat, FIRST_SIGNATURE, &votes.first_signature);
+    put_all(flat, SECOND_TARGET, &votes.second_target);
+    put_all(flat, SECOND_NUMBER, &votes.second_number);
+    put_all(flat, SECOND_SIGNATURE, &votes.second_signature);
 }
 
 fn put_history(flat: &mut [u64; SIZE], history: History) {
-    put_entries(flat, ENTRIES, &history.entries);
-    put(flat, ENTRY_COUNT, history.count as u64);
-    let prevoted = history.prevoted;
-    put(flat, PREVOTED, index_word(prevoted));
-    let precommitted = history.precommitted;
-    put(flat, PRECOMMITTED, index_word(precommitted));
-}
-
-fn block_word(block: Option<u8>) -> u64 {
-    match block {
-        Some(place) => place as u64,
-        None => 256,
-    }
+    put_all(flat, ENTRIES, &history.entries);
+    put_one(flat, ENTRY_COUNT, history.count);
+    put_one(flat, PREVOTED, history.prevoted);
+    put_one(flat, PRECOMMITTED, history.precommitted);
 }
 
 fn put_answers(flat: &mut [u64; SIZE], answers: Answers) {
-    let prevote = answers.prevote;
-    put(flat, PREVOTE, block_word(prevote));
-    let precommit = answers.precommit;
-    put(flat, PRECOMMIT, block_word(precommit));
-    let finalized = answers.finalized;
-    put(flat, FINALIZED, block_word(finalized));
-    let estimate = answers.estimate;
-    put(flat, ESTIMATE, block_word(estimate));
-    put(flat, COMPLETABLE, bit(answers.completable));
+    put_one(flat, PREVOTE, answers.prevote);
+    put_one(flat, PRECOMMIT, answers.precommit);
+    put_one(flat, FINALIZED, answers.finalized);
+    put_one(flat, ESTIMATE, answers.estimate);
+    put_one(flat, COMPLETABLE, answers.completable);
 }
 
 // The words of a round.
@@ -266,56 +294,20 @@ pub fn words_of(round: Round) -> [u64; SIZE] {
     flat
 }
 
-fn byte_at(flat: &[u64; SIZE], at: usize) -> u8 {
-    (get(flat, at) % 256) as u8
-}
-
-fn entry_at(flat: &[u64; SIZE], at: usize) -> u16 {
-    (get(flat, at) % 65536) as u16
-}
-
-fn number_at(flat: &[u64; SIZE], at: usize) -> u32 {
-    (get(flat, at) % 4294967296) as u32
+fn get_one<H: Held>(flat: &[u64; SIZE], at: usize) -> H {
+    H::of(get(flat, at))
 }
 
 // The id of the base.
 pub fn base_id(flat: &[u64; SIZE]) -> u32 {
-    number_at(flat, after(IDS, (get(flat, BASE) % 256) as usize))
+    let base: u8 = get_one(flat, BASE);
+    get_one(flat, after(IDS, usize::from(base)))
 }
 
-fn get_bytes(flat: &[u64; SIZE], at: usize, column: &mut [u8]) {
-    for k in 0..column.len() {
-        column[k] = byte_at(flat, after(at, k));
+fn get_all<H: Held>(flat: &[u64; SIZE], at: usize, column: &mut [H]) {
+    for (held, word) in column.iter_mut().zip(flat.iter().skip(at)) {
+        *held = H::of(*word);
     }
-}
-
-fn get_numbers(flat: &[u64; SIZE], at: usize, column: &mut [u32]) {
-    for k in 0..column.len() {
-        column[k] = number_at(flat, after(at, k));
-    }
-}
-
-fn get_entries(flat: &[u64; SIZE], at: usize, column: &mut [u16]) {
-    for k in 0..column.len() {
-        column[k] = entry_at(flat, after(at, k));
-    }
-}
-
-fn get_words(flat: &[u64; SIZE], at: usize, column: &mut [u64]) {
-    for k in 0..column.len() {
-        column[k] = get(flat, after(at, k));
-    }
-}
-
-fn get_flags(flat: &[u64; SIZE], at: usize, column: &mut [bool; BLOCKS]) {
-    for k in 0..BLOCKS {
-        column[k] = get(flat, after(at, k)) == 1;
-    }
-}
-
-fn row_at(flat: &[u64; SIZE], at: usize) -> Row {
-    let bits = [get(flat, at), get(flat, after(at, 1))];
-    Row { bits }
 }
 
 fn get_rows(flat: &[u64; SIZE], at: usize) -> [Row; BLOCKS] {
@@ -324,25 +316,27 @@ fn get_rows(flat: &[u64; SIZE], at: usize) -> [Row; BLOCKS] {
     };
     let mut rows = [none; BLOCKS];
     for k in 0..BLOCKS {
-        let row = row_at(flat, after(at, 2 * k));
-        rows[k] = row;
+        let mut bits = [0u64; WORDS];
+        get_all(flat, after(at, WORDS * k), &mut bits);
+        rows[k] = Row { bits };
     }
     rows
 }
 
 fn get_context(flat: &[u64; SIZE]) -> Context {
     let mut ids = [0u32; VOTERS];
-    get_numbers(flat, VOTER_IDS, &mut ids);
+    get_all(flat, VOTER_IDS, &mut ids);
     let mut weights = [0u64; VOTERS];
-    get_words(flat, WEIGHTS, &mut weights);
+    get_all(flat, WEIGHTS, &mut weights);
     let voters = VoterSet {
         ids,
         weights,
-        count: get(flat, VOTER_COUNT) as usize,
+        count: get_one(flat, VOTER_COUNT),
         threshold: get(flat, THRESHOLD),
         total: get(flat, TOTAL),
     };
-    let equivocations = [get(flat, EQUIVOCATIONS), get(flat, EQUIVOCATIONS + 1)];
+    let mut equivocations = [0u64; WORDS];
+    get_all(flat, EQUIVOCATIONS, &mut equivocations);
     Context {
         voters,
         equivocations,
@@ -351,54 +345,54 @@ fn get_context(flat: &[u64; SIZE]) -> Context {
 
 fn get_table(flat: &[u64; SIZE]) -> BlockTable {
     let mut ids = [0u32; BLOCKS];
-    get_numbers(flat, IDS, &mut ids);
+    get_all(flat, IDS, &mut ids);
     let mut numbers = [0u32; BLOCKS];
-    get_numbers(flat, NUMBERS, &mut numbers);
+    get_all(flat, NUMBERS, &mut numbers);
     let mut parents = [0u8; BLOCKS];
-    get_bytes(flat, PARENTS, &mut parents);
+    get_all(flat, PARENTS, &mut parents);
     BlockTable {
         ids,
         numbers,
         parents,
-        count: get(flat, BLOCK_COUNT) as usize,
+        count: get_one(flat, BLOCK_COUNT),
     }
 }
 
 fn get_graph(flat: &[u64; SIZE]) -> VoteGraph {
     let mut used = [false; BLOCKS];
-    get_flags(flat, USED, &mut used);
+    get_all(flat, USED, &mut used);
     let mut above = [0u8; BLOCKS];
-    get_bytes(flat, ABOVE, &mut above);
+    get_all(flat, ABOVE, &mut above);
     let rows = get_rows(flat, ROWS);
     let mut order = [0u8; BLOCKS];
-    get_bytes(flat, ORDER, &mut order);
+    get_all(flat, ORDER, &mut order);
     let mut heads = [0u8; BLOCKS];
-    get_bytes(flat, HEADS, &mut heads);
+    get_all(flat, HEADS, &mut heads);
     VoteGraph {
-        base: byte_at(flat, BASE),
+        base: get_one(flat, BASE),
         used,
         above,
         rows,
         order,
-        listed: get(flat, LISTED) as usize,
+        listed: get_one(flat, LISTED),
         heads,
-        tips: get(flat, TIPS) as usize,
+        tips: get_one(flat, TIPS),
     }
 }
 
 fn get_votes(flat: &[u64; SIZE]) -> Votes {
     let mut counts = [0u8; VOTES];
-    get_bytes(flat, COUNTS, &mut counts);
+    get_all(flat, COUNTS, &mut counts);
     let mut first_block = [0u8; VOTES];
-    get_bytes(flat, FIRST_BLOCK, &mut first_block);
+    get_all(flat, FIRST_BLOCK, &mut first_block);
     let mut first_signature = [0u64; VOTES];
-    get_words(flat, FIRST_SIGNATURE, &mut first_signature);
+    get_all(flat, FIRST_SIGNATURE, &mut first_signature);
     let mut second_target = [0u32; VOTES];
-    get_numbers(flat, SECOND_TARGET, &mut second_target);
+    get_all(flat, SECOND_TARGET, &mut second_target);
     let mut second_number = [0u32; VOTES];
-    get_numbers(flat, SECOND_NUMBER, &mut second_number);
+    get_all(flat, SECOND_NUMBER, &mut second_number);
     let mut second_signature = [0u64; VOTES];
-    get_words(flat, SECOND_SIGNATURE, &mut second_signature);
+    get_all(flat, SECOND_SIGNATURE, &mut second_signature);
     Votes {
         counts,
         first_block,
@@ -409,45 +403,24 @@ fn get_votes(flat: &[u64; SIZE]) -> Votes {
     }
 }
 
-fn index_at(flat: &[u64; SIZE], at: usize) -> Option<u64> {
-    let seen = get(flat, at);
-    if seen == 18446744073709551615 {
-        return None;
-    }
-    Some(seen)
-}
-
 fn get_history(flat: &[u64; SIZE]) -> History {
     let mut entries = [0u16; HISTORY];
-    get_entries(flat, ENTRIES, &mut entries);
-    let prevoted = index_at(flat, PREVOTED);
-    let precommitted = index_at(flat, PRECOMMITTED);
+    get_all(flat, ENTRIES, &mut entries);
     History {
         entries,
-        count: get(flat, ENTRY_COUNT) as usize,
-        prevoted,
-        precommitted,
+        count: get_one(flat, ENTRY_COUNT),
+        prevoted: get_one(flat, PREVOTED),
+        precommitted: get_one(flat, PRECOMMITTED),
     }
-}
-
-fn block_at(flat: &[u64; SIZE], at: usize) -> Option<u8> {
-    if 256 <= get(flat, at) {
-        return None;
-    }
-    Some(byte_at(flat, at))
 }
 
 fn get_answers(flat: &[u64; SIZE]) -> Answers {
-    let prevote = block_at(flat, PREVOTE);
-    let precommit = block_at(flat, PRECOMMIT);
-    let finalized = block_at(flat, FINALIZED);
-    let estimate = block_at(flat, ESTIMATE);
     Answers {
-        prevote,
-        precommit,
-        finalized,
-        estimate,
-        completable: get(flat, COMPLETABLE) == 1,
+        prevote: get_one(flat, PREVOTE),
+        precommit: get_one(flat, PRECOMMIT),
+        finalized: get_one(flat, FINALIZED),
+        estimate: get_one(flat, ESTIMATE),
+        completable: get_one(flat, COMPLETABLE),
     }
 }
 
@@ -475,15 +448,6 @@ pub fn round_of(flat: &[u64; SIZE]) -> Round {
     }
 }
 
-pub fn same<'a>(one: &'a [u64; SIZE], other: &'a [u64; SIZE]) -> bool {
-    for k in 0..SIZE {
-        if one[k] != other[k] {
-            return false;
-        }
-    }
-    true
-}
-
 // 2^32 - 5, a prime: a product with 257 fits a word.
 fn mixed(sum: u64, x: u64) -> u64 {
     (sum % 4294967291 * 257 + x % 4294967291) % 4294967291
@@ -491,9 +455,5 @@ fn mixed(sum: u64, x: u64) -> u64 {
 
 // One number of all words, to tell that another program speaks of the same round.
 pub fn digest(flat: &[u64; SIZE]) -> u64 {
-    let mut sum = 0;
-    for k in 0..SIZE {
-        sum = mixed(sum, flat[k]);
-    }
-    sum
+    flat.iter().fold(0, |sum, word| mixed(sum, *word))
 }
