@@ -7,7 +7,7 @@ use Rattle.summary.specs.declared.Outcome.TheVariants.{Voting, Early, Refused}
 use Rattle.summary.specs.declared.Summary.{Summary}
 use Rattle.summary.specs.Summary.{bare}
 use Rattle.figures.specs.Figures.{figures}
-use Rattle.std.specs.Prelude.{Some, Ok}
+use Rattle.std.specs.Prelude.{Some}
 use Rattle.refusals.specs.declared.Refusal.TheVariants.{UnknownMark}
 
 abbrev case_j : Summary
@@ -22,9 +22,9 @@ case_j =
       heard = record { prevote = 4; precommit = 3 };
       prevoters = 4;
       precommitters = 3;
-      prevote = Ok (Some (12, 2));
-      estimate = Ok (Some (12, 2));
-      finalized = Ok (Some (11, 1));
+      prevote = Some (12, 2);
+      estimate = Some (12, 2);
+      finalized = Some (11, 1);
       completable = true;
     }
 

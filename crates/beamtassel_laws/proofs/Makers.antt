@@ -29,10 +29,11 @@ use Rattle.beamtassel.proofs.Called.{views_are}
 use Rattle.beamtassel_laws.specs.Makers.{FinalsApart, Makers}
 use Rattle.std.specs.Prelude.{Result, Ok, Err, ⊤}
 use Rattle.refusals.specs.declared.Refusal.{Refusal}
+use Rattle.refusals.specs.declared.Refusal.TheVariants.{ShortBuffer, UnlikeViews}
 
 -- the call by its parts
 abbrev call_of : Result ⊤ Refusal → Result ⊤ Refusal → Bool → Bool → Result ℕ Refusal → List ℕ → Call
-call_of s t u v w out = unless_refused s out (unless_refused t out (cond u (cond v (weighed w out) (refused 16 out)) (refused 16 out)))
+call_of s t u v w out = unless_refused s out (unless_refused t out (cond u (cond v (weighed w out) (refused UnlikeViews out)) (refused UnlikeViews out)))
 
 -- what an answer tells of them
 pub record Answered (s t : Result ⊤ Refusal) (u v : Bool) (w : Result ℕ Refusal) (out : List ℕ) : Type 0 where
@@ -46,15 +47,15 @@ pub record Answered (s t : Result ⊤ Refusal) (u v : Bool) (w : Result ℕ Refu
 
 answered_by : (s t : Result ⊤ Refusal) (u v : Bool) (w : Result ℕ Refusal) (out : List ℕ) → (call_of s t u v w out).number < 4294967296 → Answered s t u v w out
 answered_by (Err n) t u v w out h = absurd (omega (arith, h))
-answered_by (Ok tt) (Err n) u v w out h = absurd (omega (arith, h))
-answered_by (Ok tt) (Ok tt) false v w out h = absurd (omega (arith, h))
-answered_by (Ok tt) (Ok tt) true false w out h = absurd (omega (arith, h))
-answered_by (Ok tt) (Ok tt) true true (Err n) out h = absurd (omega (arith, h))
-answered_by (Ok tt) (Ok tt) true true (Ok n) out h =
+answered_by (Ok _) (Err n) u v w out h = absurd (omega (arith, h))
+answered_by (Ok _) (Ok _) false v w out h = absurd (omega (arith, h))
+answered_by (Ok _) (Ok _) true false w out h = absurd (omega (arith, h))
+answered_by (Ok _) (Ok _) true true (Err n) out h = absurd (omega (arith, h))
+answered_by (Ok _) (Ok _) true true (Ok n) out h =
     record { first_open = refl; second_open = refl; first_has = refl; second_has = refl; sum = n; sums = refl; bytes = go (ltb (length out) 8) h }
   where
-    go : (b : Bool) → (cond b (refused 14 out) (record { number = 8; out = little 8 n ++ drop 8 out })).number < 4294967296
-        → take 8 (cond b (refused 14 out) (record { number = 8; out = little 8 n ++ drop 8 out })).out ≡ little 8 n
+    go : (b : Bool) → (cond b (refused ShortBuffer out) (record { number = 8; out = little 8 n ++ drop 8 out })).number < 4294967296
+        → take 8 (cond b (refused ShortBuffer out) (record { number = 8; out = little 8 n ++ drop 8 out })).out ≡ little 8 n
     go true l = absurd (omega (arith, l))
     go false l = refl
 
@@ -65,7 +66,7 @@ turn_votes Voters e = absurd (let z : ◌≡◌ {A = ℕ} 0 1 = cc in omega arit
 
 -- a journal with a round
 module _ (bs : List ℕ) (going : (replayed bs).stop ≡ Ok tt) (has : HasRound bs) where
-  final_told : ask.finalized (round_in bs) ≡ (summed (replayed bs)).finalized
+  final_told : ask.finalized (round_in bs) ≡ Ok (summed (replayed bs)).finalized
   unfolding summed of_round
   final_told = rw (going, has) ((demand_1 (round_in bs)).finalized.steps (keeps (round_in bs) (round_reached bs has)))
 
@@ -90,10 +91,10 @@ two_finals first second out apart =
             sums = sums;
             id = apart.id;
             number = apart.number;
-            final = here ∙ apart.final;
+            final = here ∙ ap Ok apart.final;
             id_other = apart.id_other;
             number_other = apart.number_other;
-            final_other = there ∙ apart.final_other;
+            final_other = there ∙ ap Ok apart.final_other;
             not_below = λ l. apart.not_below (rw (← here, ← there) l);
             not_above = λ l. apart.not_above (rw (← here, ← there) l);
           }),
@@ -115,10 +116,10 @@ two_finals first second out apart =
     reached_other : Reached (round_in second)
     reached_other = round_reached second has_other
 
-    here : ask.finalized (round_in first) ≡ (summed (replayed first)).finalized
+    here : ask.finalized (round_in first) ≡ Ok (summed (replayed first)).finalized
     here = final_told first x.first_open has
 
-    there : ask.finalized (round_in second) ≡ (summed (replayed second)).finalized
+    there : ask.finalized (round_in second) ≡ Ok (summed (replayed second)).finalized
     there = final_told second x.second_open has_other
 
     sums : two.views (round_in first) (round_in second) ≡ Ok x.sum

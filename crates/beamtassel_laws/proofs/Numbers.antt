@@ -12,12 +12,14 @@ use Rattle.replay_laws.specs.Ends.{Ends, at_end, at_mark, at_record, taken}
 use Rattle.replay_laws.specs.Turned.{Part, voters, blocks, votes, part_of, Own}
 use Rattle.replay_laws.proofs.Ends.{replay_ends}
 use Rattle.replay_laws.proofs.Numbers.{refused_number}
-use Rattle.beamtassel_laws.specs.Results.{Refusal}
+use Rattle.beamtassel_laws.specs.Results.{Listed}
+use Rattle.refusals.specs.declared.Refusal.{Refusal}
+use Rattle.refusals.specs.Number.{number}
 use Rattle.std.specs.Prelude.{Result, Ok, Err, ⊤}
 
 -- a call's own refusals, 14 to 16, are none of them
 pub record OwnNumber (n : ℕ) : Type 0 where
-  pub number : Refusal n
+  pub number : Listed n
   pub not_short : n ≢ 14
 
 one : (n : ℕ) → ((1 ≤ n) × (n ≤ 8)) → OwnNumber n
@@ -56,7 +58,7 @@ own_number votes Pc n h = ten n (omega (arith, h.0), omega (arith, h.1))
 -- what a stop tells
 abbrev Stops : Result ⊤ Refusal → Type 0
 Stops (Ok tt) = Unit {0}
-Stops (Err n) = OwnNumber n
+Stops (Err e) = OwnNumber (number e)
 
 pub replay_stops : (bs : List ℕ) → Stops (replayed bs).stop
 replay_stops bs = go (replayed bs) (replay_ends bs)
@@ -64,7 +66,7 @@ replay_stops bs = go (replayed bs) (replay_ends bs)
     go : (r : Replay) → Ends bs r → Stops r.stop
     go _ (at_end c u) = tt
     go _ (at_mark c u) = late 17 (omega arith) (omega arith)
-    go _ (at_record es e later n s c q) = own_number (part_of (taken es).state) e.mark n (refused_number es e n q)
+    go _ (at_record es e later n s c q) = own_number (part_of (taken es).state) e.mark (number n) (refused_number es e n q)
 
-pub own_refusal : (bs : List ℕ) (n : ℕ) → (replayed bs).stop ≡ Err n → OwnNumber n
-own_refusal bs n e = subst Stops e (replay_stops bs)
+pub own_refusal : (bs : List ℕ) (e : Refusal) → (replayed bs).stop ≡ Err e → OwnNumber (number e)
+own_refusal bs e q = subst Stops q (replay_stops bs)

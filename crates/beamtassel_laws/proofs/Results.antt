@@ -23,24 +23,26 @@ use Rattle.figures.specs.Figures.{figures, in_order}
 use Rattle.figures.proofs.Rows.{figures_length}
 use Rattle.beamtassel.specs.Calls.{Call, refused, given, unless_refused, has_round, finalizing_in, views_in, weighed, replay_call, print_call, finalizing_call, two_views_call}
 use Rattle.beamtassel.proofs.Rounds.{round_passes}
-use Rattle.beamtassel_laws.specs.Results.{Refusal, Results, wrote, refuses}
+use Rattle.beamtassel_laws.specs.Results.{Results, wrote, refuses}
 use Rattle.beamtassel_laws.proofs.Sizes.{lines_size, list_size}
 use Rattle.beamtassel_laws.proofs.Numbers.{own_refusal}
 use Rattle.std.specs.Prelude.{Option, Some, None, Result, Ok, Err, ⊤}
-use Rattle.refusals.specs.declared.Refusal.TheVariants.{UnlikeViews}
+use Rattle.refusals.specs.declared.Refusal.{Refusal}
+use Rattle.refusals.specs.declared.Refusal.TheVariants.{ShortBuffer, NothingFinal, UnlikeViews}
+use Rattle.refusals.specs.Number.{number}
 
 module _ (most : ℕ) (out : List ℕ) where
   given_results : (bytes : List ℕ) → length bytes ≤ most → Results most out (given bytes out)
   given_results bytes few = go (ltb (length out) (length bytes)) refl
     where
-      go : (t : Bool) → ltb (length out) (length bytes) ≡ t → Results most out (cond t (refused 14 out) (record { number = length bytes; out = bytes ++ drop (length bytes) out }))
-      go true e = refuses 14 (record { listed = (omega arith, omega arith); not_nine = λ q. omega arith }) (λ q. omega (arith, few, ltb-true (length out) (length bytes) e))
+      go : (t : Bool) → ltb (length out) (length bytes) ≡ t → Results most out (cond t (refused ShortBuffer out) (record { number = length bytes; out = bytes ++ drop (length bytes) out }))
+      go true e = refuses ShortBuffer (record { listed = (omega arith, omega arith); not_nine = λ q. omega arith }) (λ q. omega (arith, few, ltb-true (length out) (length bytes) e))
       go false e = wrote bytes few (ltb-false (length out) (length bytes) e)
 
   -- the call's own numbers
-  no_results : (n : ℕ) → 15 ≤ n → n ≤ 16 → Results most out (refused n out)
-  no_results n h k =
-      refuses n (record { listed = (omega (arith, h), omega (arith, k)); not_nine = λ e. omega (arith, h) }) (λ e. absurd (omega (arith, h)))
+  no_results : (e : Refusal) → 15 ≤ number e → number e ≤ 16 → Results most out (refused e out)
+  no_results e h k =
+      refuses e (record { listed = (omega (arith, h), omega (arith, k)); not_nine = λ q. omega (arith, h) }) (λ q. absurd (omega (arith, h)))
 
   unless_results : (bs : List ℕ) (call : Call) → ((replayed bs).stop ≡ Ok tt → Results most out call)
       → Results most out (unless_refused (replayed bs).stop out call)
@@ -70,13 +72,13 @@ module _ (out : List ℕ) where
       let r = (replayed journal).journal.round in
       unless_results (22 * VOTES) out journal _
       (λ e. cond_results (22 * VOTES) out (has_round (replayed journal).journal.turn) _ _ (λ t. go r (round_passes journal t) r.answers.finalized)
-      (no_results (22 * VOTES) out 15 (omega arith) (omega arith)))
+      (no_results (22 * VOTES) out NothingFinal (omega arith) (omega arith)))
     where
       go : (r : Round) → shaped r ≡ true → (found : Option ℕ) → Results (22 * VOTES) out (finalizing_in r found out)
       go r s (Some b) =
           given_results (22 * VOTES) out
           (in_a_row (record_of r.votes r.context.voters.ids r.table.ids r.table.numbers) (entries_of (Finalizing b) r)) (list_size r s b)
-      go r s None = no_results (22 * VOTES) out 15 (omega arith) (omega arith)
+      go r s None = no_results (22 * VOTES) out NothingFinal (omega arith) (omega arith)
 
   weighed_results : (a b : Round) → Results 8 out (weighed (views_in a b) out)
   unfolding views_in
@@ -87,12 +89,12 @@ module _ (out : List ℕ) where
 
       go : (t : Bool) → Results 8 out (weighed (cond t (Ok sum) (Err UnlikeViews)) out)
       go true = given_results 8 out (little 8 sum) (omega arith)
-      go false = no_results 8 out 16 (omega arith) (omega arith)
+      go false = no_results 8 out UnlikeViews (omega arith) (omega arith)
 
   pub two_views_results : (first second : List ℕ) → Results 8 out (two_views_call first second out)
   unfolding two_views_call
   two_views_results first second =
-      let none = no_results 8 out 16 (omega arith) (omega arith) in
+      let none = no_results 8 out UnlikeViews (omega arith) (omega arith) in
       unless_results 8 out first _
       (λ e. unless_results 8 out second _
       (λ f. cond_results 8 out (has_round (replayed first).journal.turn) _ _

@@ -30,6 +30,7 @@ use Rattle.lines.proofs.Decimals.{decimal_length}
 use Rattle.report.specs.Report.{lines_by, lines_of}
 use Rattle.std.specs.Prelude.{Option, Some, None, Result, Ok, Err, ⊤}
 use Rattle.refusals.specs.declared.Refusal.{Refusal}
+use Rattle.refusals.specs.Number.{number}
 
 -- two precommits of each voter, 22 bytes each
 pub list_size : (r : Round) → shaped r ≡ true → (b : ℕ)
@@ -72,12 +73,11 @@ heard_size word a b c d =
     end_size in
     record { at_most = omega (arith, all.at_most) }
 
-told_size : (t : Result (Option (ℕ × ℕ)) Refusal) → Within 43 (block_end t)
-told_size (Ok (Some (id, number))) = both_size (both_size (named_size (text " ") id) (named_size (text " ") number)) end_size
-told_size (Ok None) = record { at_most = omega arith }
-told_size (Err n) = record { at_most = omega arith }
+told_size : (t : Option (ℕ × ℕ)) → Within 43 (block_end t)
+told_size (Some (id, number)) = both_size (both_size (named_size (text " ") id) (named_size (text " ") number)) end_size
+told_size None = record { at_most = omega arith }
 
-block_size : (word : List ℕ) (t : Result (Option (ℕ × ℕ)) Refusal) → Within (length word + 43) (block_line word t)
+block_size : (word : List ℕ) (t : Option (ℕ × ℕ)) → Within (length word + 43) (block_line word t)
 unfolding block_line
 block_size word t = record { at_most = omega (arith, length-append word (block_end t), (told_size t).at_most) }
 
@@ -115,16 +115,16 @@ early_size : (tail : ℕ) → Within 35 (lines.no_round tail)
 unfolding lines.no_round
 early_size tail = both_size no_round_size (line_size (text "tail ") tail)
 
-refused_size : (n k : ℕ) → Within 53 (lines.refused n k)
+refused_size : (e : Refusal) (k : ℕ) → Within 53 (lines.refused e k)
 unfolding lines.refused
-refused_size n k = both_size (both_size (named_size (text "refused ") n) (named_size (text " at ") k)) end_size
+refused_size e k = both_size (both_size (named_size (text "refused ") (number e)) (named_size (text " at ") k)) end_size
 
 pub lines_size : (r : Replay) → length (lines_of r) ≤ 432
 unfolding lines_of
 lines_size r = go r.stop r.journal.turn
   where
     go : (s : Result ⊤ Refusal) (t : Turn) → length (lines_by s t r) ≤ 432
-    go (Err n) t = omega (arith, (refused_size n (plus r.records 1)).at_most)
+    go (Err e) t = omega (arith, (refused_size e (plus r.records 1)).at_most)
     go (Ok tt) Votes = (round_size r.journal.round r.rest.count).at_most
     go (Ok tt) Blocks = omega (arith, (early_size r.rest.count).at_most)
     go (Ok tt) Voters = omega (arith, (early_size r.rest.count).at_most)

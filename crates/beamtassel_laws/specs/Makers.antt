@@ -15,13 +15,13 @@ pub record FinalsApart (first second out : List ℕ) : Type 0 where
   -- each has a final block
   pub id : ℕ
   pub number : ℕ
-  pub final : (summed (replayed first)).finalized ≡ Ok (Some (id, number))
+  pub final : (summed (replayed first)).finalized ≡ Some (id, number)
   pub id_other : ℕ
   pub number_other : ℕ
-  pub final_other : (summed (replayed second)).finalized ≡ Ok (Some (id_other, number_other))
+  pub final_other : (summed (replayed second)).finalized ≡ Some (id_other, number_other)
   -- neither is the other or its ancestor
-  pub not_below : Below (round_in first).table (summed (replayed first)).finalized (summed (replayed second)).finalized → ⊥
-  pub not_above : Below (round_in first).table (summed (replayed second)).finalized (summed (replayed first)).finalized → ⊥
+  pub not_below : Below (round_in first).table (Ok (summed (replayed first)).finalized) (Ok (summed (replayed second)).finalized) → ⊥
+  pub not_above : Below (round_in first).table (Ok (summed (replayed second)).finalized) (Ok (summed (replayed first)).finalized) → ⊥
 
 abbrev pub Makers : Type 0
 Makers = (first second out : List ℕ) → FinalsApart first second out

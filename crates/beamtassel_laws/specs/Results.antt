@@ -1,9 +1,11 @@
 -- What a call of the library can answer. Document 01, "Refusal numbers": a refusal returns only its number, and the buffer is untouched.
 use Rattle.std.specs.Prelude.{List, ◌++◌, ◌≢◌, ◌≡◌, ℕ, ◌+◌, ◌≤◌, ◌<◌, length, drop}
+use Rattle.refusals.specs.declared.Refusal.{Refusal}
+use Rattle.refusals.specs.Number.{number}
 use Rattle.beamtassel.specs.Calls.{Call, refused}
 
 -- a number of document 01's list; 9 is never given, since no state is handed in
-pub record Refusal (n : ℕ) : Type 0 where
+pub record Listed (n : ℕ) : Type 0 where
   pub listed : (1 ≤ n) × (n ≤ 18)
   pub not_nine : n ≢ 9
 
@@ -11,4 +13,4 @@ pub record Refusal (n : ℕ) : Type 0 where
 pub data Results (most : ℕ) (out : List ℕ) : Call → Type 0 where
   wrote : (bytes : List ℕ) → length bytes ≤ most → length bytes ≤ length out
       → Results most out (record { number = length bytes; out = bytes ++ drop (length bytes) out })
-  refuses : (n : ℕ) → Refusal n → (n ≡ 14 → length out < most) → Results most out (refused n out)
+  refuses : (e : Refusal) → Listed (number e) → (number e ≡ 14 → length out < most) → Results most out (refused e out)
