@@ -2,7 +2,6 @@
 #![tactic(auto)]
 
 ghost use Rattle.std.specs.Prelude.{◌≡◌, ◌++◌, cond, ◌≤◌, length, drop};
-ghost use Rattle.weights.specs.Weights.{plus};
 ghost use Rattle.records.specs.Bytes.{little};
 ghost use Rattle.listing.specs.Written.{Lent};
 ghost use Rattle.figures.specs.Figures.{ended_by, shown, figures, in_order, figured};
@@ -26,13 +25,6 @@ pub struct Block {
     pub height: u64,
 }
 
-// The number of the record after those taken.
-fn next(records: u64) -> u64
-    ensures { result ≡ plus records 1 }
-{
-    records.saturating_add(1)
-}
-
 fn ended_by(outcome: Outcome, records: u64) -> Ended
     ensures { result ≡ ended_by outcome records }
 {
@@ -50,7 +42,7 @@ fn ended_by(outcome: Outcome, records: u64) -> Ended
         Outcome::Refused(refusal) => Ended {
             kind: 2,
             refusal: refusal.number() as u64,
-            place: next(records),
+            place: records.saturating_add(1),
         },
     }
 }
@@ -84,15 +76,10 @@ fn flag(yes: bool) -> u64
 fn figures(summary: Summary) -> [u64; 22]
     ensures { result ≡ figures summary }
 {
-    let outcome = summary.outcome;
-    let heard = summary.heard;
-    let highest = summary.prevote;
-    let estimated = summary.estimate;
-    let last = summary.finalized;
-    let end = ended_by(outcome, summary.records);
-    let ghost_block = shown(highest);
-    let estimate = shown(estimated);
-    let finalized = shown(last);
+    let end = ended_by(summary.outcome, summary.records);
+    let ghost_block = shown(summary.prevote);
+    let estimate = shown(summary.estimate);
+    let finalized = shown(summary.finalized);
     [
         end.kind,
         end.refusal,
@@ -102,8 +89,8 @@ fn figures(summary: Summary) -> [u64; 22]
         summary.number,
         summary.total,
         summary.threshold,
-        heard.prevote,
-        heard.precommit,
+        summary.heard.prevote,
+        summary.heard.precommit,
         summary.prevoters as u64,
         summary.precommitters as u64,
         ghost_block.known,
@@ -135,7 +122,7 @@ fn put_all(out: &mut [u8], numbers: [u64; 22])
     let mut used = 0;
     for k in 0..22usize {
         put(&mut out[used..], numbers[k]);
-        used = used + 8;
+        used += 8;
     }
 }
 

@@ -2,20 +2,12 @@
 #![tactic(auto)]
 
 ghost use Rattle.std.specs.Prelude.{◌≡◌, ◌++◌, ◌+◌, ◌≤◌, length, drop};
-ghost use Rattle.weights.specs.Weights.{plus};
 ghost use Rattle.listing.specs.Written.{Lent};
 ghost use Rattle.lines.specs.Put.{Put};
 ghost use Rattle.summary_lines.specs.Text.{answer_text, round_text, text_of, printed};
 
 use refusals::Refusal;
 use summary::{Outcome, Summary};
-
-// The number of the record after those taken.
-fn next(records: u64) -> u64
-    ensures { result ≡ plus records 1 }
-{
-    records.saturating_add(1)
-}
 
 fn put_answers(
     out: &mut [u8; 512],
@@ -38,9 +30,6 @@ fn put_round(out: &mut [u8; 512], summary: Summary) -> usize
     ensures { (out.new ≡ round_text summary ++ drop (length (round_text summary)) out.old) × (result ≡ length (round_text summary)) }
 {
     let heard = summary.heard;
-    let highest = summary.prevote;
-    let estimate = summary.estimate;
-    let finalized = summary.finalized;
     let a = lines::put_line(out, 0, b"round ", summary.number);
     let b = lines::put_heard(
         out,
@@ -60,19 +49,29 @@ fn put_round(out: &mut [u8; 512], summary: Summary) -> usize
         summary.threshold,
         summary.precommitters,
     );
-    let d = put_answers(out, c, highest, estimate, finalized, summary.completable);
+    let d = put_answers(
+        out,
+        c,
+        summary.prevote,
+        summary.estimate,
+        summary.finalized,
+        summary.completable,
+    );
     lines::put_line(out, d, b"tail ", summary.tail as u64)
 }
 
-// The lines, in a lent array.
+// The lines, in a lent array. A refused record is the one after those taken.
 fn put(out: &mut [u8; 512], summary: Summary) -> usize
     ensures { (out.new ≡ text_of summary ++ drop (length (text_of summary)) out.old) × (result ≡ length (text_of summary)) }
 {
-    let outcome = summary.outcome;
-    match outcome {
+    match summary.outcome {
         Outcome::Voting => put_round(out, summary),
         Outcome::Early => lines::put_no_round(out, summary.tail),
-        Outcome::Refused(refusal) => lines::put_refused(out, refusal, next(summary.records)),
+        Outcome::Refused(refusal) => lines::put_refused(
+            out,
+            refusal,
+            feeding::more(summary.records, 1),
+        ),
     }
 }
 

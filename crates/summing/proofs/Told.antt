@@ -10,7 +10,6 @@ use Rattle.lent.specs.Moment.{plain}
 use Rattle.columns.specs.Lists.{padded}
 use Rattle.weights.specs.Weights.{plus}
 use Rattle.voter_set.specs.declared.VoterSet.{VoterSet}
-use Rattle.voter_set.specs.declared.Answer.TheVariants as voters
 use Rattle.voter_set.specs.Voters.{new}
 use Rattle.blocks.specs.declared.BlockTable.{BlockTable}
 use Rattle.blocks.specs.Add.{place_of}
@@ -54,7 +53,7 @@ use Rattle.summary.specs.declared.Outcome.TheVariants.{Early}
 use Rattle.summary.specs.declared.Summary.{Summary}
 use Rattle.summary.specs.Summary.{bare, of_round, summed}
 use Rattle.summing.specs.Summing.{told, of_parts, closed}
-use Rattle.std.specs.Prelude.{Some, None, Result}
+use Rattle.std.specs.Prelude.{Some, None, Result, Ok, Err}
 use Rattle.refusals.specs.declared.Refusal.TheVariants.{UnknownBase}
 use Rattle.refusals.specs.declared.Refusal.{Refusal}
 
@@ -138,24 +137,19 @@ opened_room a b t e =
 -- the Rt
 module _ (m : ℕ) (p : Pairs) (bs : List ℕ) (is_rt : read bs ≡ is.Whole Rt) (fs : List ℕ) (all : fs ≡ fields Rt bs) (made : Result VoterSet Refusal)
     (is_made : made ≡ new (take p.count p.ids) (take p.count p.weights)) where
-  pub rt_stop : (z : Refusal) → made.answer ≡ voters.Refused z → (k : ℕ) → k ≡ plus m 0 → (r : Summary) → r ≡ bare (outcome.Refused z) k 0 → r ≡ told m (pairing p) bs
-  rt_stop z e =
-      stops_at m 0 (pairing p) (laid (pairing p)) bs bs z (root_refused p bs is_rt z (ap (λ (x : Result VoterSet Refusal). x.answer) (sym is_made) ∙ e))
+  pub rt_stop : (z : Refusal) → made ≡ Err z → (k : ℕ) → k ≡ plus m 0 → (r : Summary) → r ≡ bare (outcome.Refused z) k 0 → r ≡ told m (pairing p) bs
+  rt_stop z e = stops_at m 0 (pairing p) (laid (pairing p)) bs bs z (root_refused p bs is_rt z (sym is_made ∙ e))
 
-  module _ (yes : made.answer ≡ voters.Made) (a b : ℕ) (root : a ≡ word fs 0) (height : b ≡ word fs 4) where
-    pub rt_stands : Stands Kept (growing made.voters (table.opened a b))
-    rt_stands = rt_ready p bs is_rt fs all made is_made yes a b root height (table.opened a b) refl
+  module _ (v : VoterSet) (yes : made ≡ Ok v) (a b : ℕ) (root : a ≡ word fs 0) (height : b ≡ word fs 4) where
+    pub rt_stands : Stands Kept (growing v (table.opened a b))
+    rt_stands = rt_ready p bs is_rt fs all made is_made v yes a b root height (table.opened a b) refl
 
-    pub rt_on : (k : ℕ) → k ≡ plus m 1 → (r : Summary) → r ≡ told k (growing made.voters (table.opened a b)) (part 10 bs) → r ≡ told m (pairing p) bs
+    pub rt_on : (k : ℕ) → k ≡ plus m 1 → (r : Summary) → r ≡ told k (growing v (table.opened a b)) (part 10 bs) → r ≡ told m (pairing p) bs
     unfolding after
     rt_on k f r g =
-        goes_on m 1 (pairing p)
-        (growing (new (take p.count p.ids) (take p.count p.weights)).voters (table.opened (word (fields Rt bs) 0) (word (fields Rt bs) 4))) 10 bs
-        (root_goes p bs is_rt (ap (λ (x : Result VoterSet Refusal). x.answer) (sym is_made) ∙ yes)) k f r
-        (g
-        ∙ (λ i. told k
-        (growing (is_made i).voters (table.opened ((root ∙ ap (λ l. word l 0) all) i) ((height ∙ ap (λ l. word l 4) all) i)))
-        (part 10 bs)))
+        goes_on m 1 (pairing p) (growing v (table.opened (word (fields Rt bs) 0) (word (fields Rt bs) 4))) 10 bs
+        (root_goes p bs is_rt v (sym is_made ∙ yes)) k f r
+        (g ∙ (λ i. told k (growing v (table.opened ((root ∙ ap (λ l. word l 0) all) i) ((height ∙ ap (λ l. word l 4) all) i))) (part 10 bs)))
 
 -- the Op
 module _ (m : ℕ) (v : VoterSet) (t : BlockTable) (stands : Stands Kept (growing v t)) (bs : List ℕ) (is_op : read bs ≡ is.Whole Op) (fs : List ℕ) (all : fs ≡ fields Op bs)
@@ -164,7 +158,7 @@ module _ (m : ℕ) (v : VoterSet) (t : BlockTable) (stands : Stands Kept (growin
   sought o e = ap (place_of t.ids t.count) (ap (λ l. word l 8) (sym all) ∙ sym named) ∙ e
 
   pub op_stop : place_of t.ids t.count base ≡ None → (k : ℕ) → k ≡ plus m 0 → (r : Summary) → r ≡ bare (outcome.Refused UnknownBase) k 0 → r ≡ told m (growing v t) bs
-  op_stop e = stops_at m 0 (growing v t) (laid (growing v t)) bs bs 10 (open_refused v t bs is_op (sought None e))
+  op_stop e = stops_at m 0 (growing v t) (laid (growing v t)) bs bs UnknownBase (open_refused v t bs is_op (sought None e))
 
   module _ (number : ℕ) (named_too : number ≡ long fs 0) (b : ℕ) (found : place_of t.ids t.count base ≡ Some b) where
     pub op_kept : Kept (opened_round number v t b).frame (opened_held b)

@@ -43,12 +43,9 @@ fn of_parts<'a>(
 ) -> Summary
     ensures { result ≡ of_parts ids.now numbers.now bits number total threshold heard answers records tail }
 {
-    let highest = answers.prevote;
-    let estimated = answers.estimate;
-    let last = answers.finalized;
-    let prevote = round::block_of(ids, numbers, highest);
-    let estimate = round::block_of(ids, numbers, estimated);
-    let finalized = round::block_of(ids, numbers, last);
+    let prevote = round::block_of(ids, numbers, answers.prevote);
+    let estimate = round::block_of(ids, numbers, answers.estimate);
+    let finalized = round::block_of(ids, numbers, answers.finalized);
     let prevoters = context::weighing::heard(bits, Phase::Prevote);
     let precommitters = context::weighing::heard(bits, Phase::Precommit);
     Summary {
@@ -154,10 +151,6 @@ fn votes(
         importing::blank(),
         bytes,
     );
-    let standing = ran.standing;
-    let heard = standing.heard;
-    let answers = standing.answers;
-    let end = ran.end;
     closed(
         ids,
         numbers,
@@ -166,11 +159,11 @@ fn votes(
         number,
         voters.total,
         voters.threshold,
-        heard,
-        answers,
+        ran.standing.heard,
+        ran.standing.answers,
         feeding::more(records, ran.count),
         bytes.len() - ran.at,
-        end,
+        ran.end,
     )
 }
 
@@ -221,10 +214,8 @@ fn grown(voters: VoterSet, root: u32, height: u32, records: u64, bytes: &[u8]) -
     let mut numbers = table.numbers;
     let mut parents = table.parents;
     let ran = growing::run(&mut ids, &mut numbers, &mut parents, table.count, bytes);
-    let at = ran.at;
-    let end = ran.end;
     let seen = feeding::more(records, ran.count);
-    match end {
+    match ran.end {
         End::Left => open(
             voters,
             &mut ids,
@@ -232,9 +223,9 @@ fn grown(voters: VoterSet, root: u32, height: u32, records: u64, bytes: &[u8]) -
             &mut parents,
             ran.blocks,
             seen,
-            &bytes[at..],
+            &bytes[ran.at..],
         ),
-        End::Cut => summary::bare(Outcome::Early, seen, bytes.len() - at),
+        End::Cut => summary::bare(Outcome::Early, seen, bytes.len() - ran.at),
         End::Refused(refusal) => summary::bare(Outcome::Refused(refusal), seen, 0),
     }
 }
@@ -277,12 +268,10 @@ pub fn replayed(bytes: &[u8]) -> Summary
     let mut ids = [0u32; PAIRS];
     let mut weights = [0u64; PAIRS];
     let ran = pairing::run(&mut ids, &mut weights, 0, bytes);
-    let at = ran.at;
-    let end = ran.end;
     let seen = feeding::more(0, ran.count);
-    match end {
-        End::Left => root(&ids, &weights, ran.pairs, seen, &bytes[at..]),
-        End::Cut => summary::bare(Outcome::Early, seen, bytes.len() - at),
+    match ran.end {
+        End::Left => root(&ids, &weights, ran.pairs, seen, &bytes[ran.at..]),
+        End::Cut => summary::bare(Outcome::Early, seen, bytes.len() - ran.at),
         End::Refused(refusal) => summary::bare(Outcome::Refused(refusal), seen, 0),
     }
 }

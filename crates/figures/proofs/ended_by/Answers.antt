@@ -5,6 +5,3 @@ returns-in-Voting c = rw c.in-Voting.is
 
 pub returns-in-Early : goal.returns-in-Early
 returns-in-Early c = rw c.in-Early.is
-
-pub returns-in-Refused : goal.returns-in-Refused
-returns-in-Refused c = rw (c.in-Refused.is, c.next.ensures)

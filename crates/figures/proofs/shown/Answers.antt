@@ -5,6 +5,3 @@ returns-in-Some c = rw c.in-Some.is
 
 pub returns-in-None : goal.returns-in-None
 returns-in-None c = rw c.in-None.is
-
-pub returns-in-Err : goal.returns-in-Err
-returns-in-Err c = rw c.in-Err.is

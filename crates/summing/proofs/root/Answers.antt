@@ -22,10 +22,10 @@ pub slice_bounds-grown-count : goal.slice_bounds-grown-count
 slice_bounds-grown-count c = omega (arith, (whole_means _ _ c.requires.1).1)
 
 pub grown-requires : goal.grown-requires
-grown-requires c = rt_stands 0 (record { ids = c.args.ids.now; weights = c.args.weights.now; count = c.args.pairs }) _ c.requires.1 _ c.fields-fields.ensures _ c.make-made.ensures c.in-Ok.is _ _ c.word-first.ensures.0 c.word-height.ensures.0
+grown-requires c = rt_stands 0 (record { ids = c.args.ids.now; weights = c.args.weights.now; count = c.args.pairs }) _ c.requires.1 _ c.fields-fields.ensures _ c.make.ensures _ c.in-Ok.is _ _ c.word-first.ensures.0 c.word-height.ensures.0
 
 pub returns-in-Err : goal.returns-in-Err
-returns-in-Err c = rt_stop _ _ _ c.requires.1 _ c.fields-fields.ensures _ c.make-made.ensures _ c.in-Err.is _ c.more.ensures _ c.bare.ensures
+returns-in-Err c = rt_stop _ _ _ c.requires.1 _ c.fields-fields.ensures _ c.make.ensures _ c.in-Err.is _ c.more.ensures _ c.bare.ensures
 
 pub returns-in-Ok : goal.returns-in-Ok
-returns-in-Ok c = rt_on _ _ _ c.requires.1 _ c.fields-fields.ensures _ c.make-made.ensures c.in-Ok.is _ _ c.word-first.ensures.0 c.word-height.ensures.0 _ c.more-seen.ensures _ c.grown.ensures
+returns-in-Ok c = rt_on _ _ _ c.requires.1 _ c.fields-fields.ensures _ c.make.ensures _ c.in-Ok.is _ _ c.word-first.ensures.0 c.word-height.ensures.0 _ c.more-seen.ensures _ c.grown.ensures
