@@ -59,7 +59,7 @@ module _ {S : Type 0} (step : S → Mark → List ℕ → Next S) where
       go leaves p ih = subst (λ (r : Folded S). Q r.state) (sym (first_leaves s e es p)) q
 
   -- where records are refused: the ones before are taken, and the next is refused
-  pub record Split (s : S) (es : List Entry) (k : ℕ) : Type 0 where
+  pub record Split (s : S) (es : List Entry) (k : Refusal) : Type 0 where
     pub before : List Entry
     pub entry : Entry
     pub later : List Entry
@@ -136,11 +136,11 @@ pub value_of : (bs : List ℕ) (r : Run turns.Journal) → ran took (pairing no_
 unfolding replayed run_from
 value_of bs r e = ap (λ (x : Run turns.Journal). after_run 0 (by_value x)) e
 
-tail_refused : (bs : List ℕ) (k : Refusal) → tail_end bs ≡ end.Refused k → (read bs ≡ is.Unknown) × (k ≡ 17)
+tail_refused : (bs : List ℕ) (k : Refusal) → tail_end bs ≡ end.Refused k → (read bs ≡ is.Unknown) × (k ≡ UnknownMark)
 unfolding tail_end
 tail_refused bs k c = go (read bs) refl
   where
-    go : (x : Record) → read bs ≡ x → (read bs ≡ is.Unknown) × (k ≡ 17)
+    go : (x : Record) → read bs ≡ x → (read bs ≡ is.Unknown) × (k ≡ UnknownMark)
     go is.Unknown e = let q : end.Refused UnknownMark ≡ end.Refused k = (rw e at c) in (e, cc)
     go is.Cut e = absurd (let q = rw e at c in let z : ◌≡◌ {A = ℕ} 0 1 = cc in omega arith)
     go (is.Whole m) e = absurd (let q = rw e at c in let z : ◌≡◌ {A = ℕ} 0 1 = cc in omega arith)
@@ -167,7 +167,7 @@ module _ (bs : List ℕ) where
   unfolding after_run tail_end
   when_end c e = value_of bs _ (folds_all took (pairing no_pairs) bs c) ∙ rw e
 
-  when_mark : (taken (parsed bs)).end ≡ Cut → read (tail bs) ≡ is.Unknown → replayed bs ≡ stopped_after (parsed bs) 17
+  when_mark : (taken (parsed bs)).end ≡ Cut → read (tail bs) ≡ is.Unknown → replayed bs ≡ stopped_after (parsed bs) UnknownMark
   unfolding after_run tail_end
   when_mark c e = value_of bs _ (folds_all took (pairing no_pairs) bs c) ∙ rw e
 

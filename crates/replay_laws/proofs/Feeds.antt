@@ -56,7 +56,7 @@ rest_passes bs e =
 abbrev open_at : turns.Journal → List ℕ → ℕ → Replay
 open_at j rest n = record { journal = laid j; rest = kept_rest rest; records = n; stop = Ok tt }
 
-abbrev stopped_at : turns.Journal → ℕ → ℕ → Replay
+abbrev stopped_at : turns.Journal → ℕ → Refusal → Replay
 stopped_at j n k = record { journal = laid j; rest = kept_rest []; records = n; stop = Err k }
 
 ended_at : (r : Run turns.Journal) (x : End) → r.end ≡ x → r ≡ ended r.state r.count r.rest x
@@ -91,7 +91,7 @@ open_stands : (j : turns.Journal) (rest : List ℕ) (n : ℕ) → Stands Kept j 
 unfolding stands
 open_stands j rest n s c = both (journal.stands (laid j)) _ (laid_stands j s) (rest_passes rest c)
 
-stopped_stands : (j : turns.Journal) (n k : ℕ) → Stands Kept j → T (stands (stopped_at j n k))
+stopped_stands : (j : turns.Journal) (n : ℕ) (k : Refusal) → Stands Kept j → T (stands (stopped_at j n k))
 unfolding stands
 stopped_stands j n k s = both (journal.stands (laid j)) _ (laid_stands j s) (rest_passes [] (read_short [] (omega arith)))
 

@@ -7,8 +7,6 @@ use Prim.Native.Nat.{ℕ, ◌<◌}
 use native.Mathlib.Omega.{arith}
 use lib.ListN.{take}
 use Rattle.voter_set.specs.declared.VoterSet.{VoterSet}
-use Rattle.voter_set.specs.declared.Answer.{Answer}
-use Rattle.voter_set.specs.declared.Answer.TheVariants.{Made, Refused}
 use Rattle.voter_set.specs.Voters.{new}
 use Rattle.voter_laws.proofs.Made.{made_fit, made_total}
 use Rattle.blocks.specs.declared.BlockTable.{BlockTable}
@@ -67,11 +65,11 @@ through_answers e leaves left l = l
 
 rooted_answers : (p : Pairs) (fs : List ℕ) → Answers (rooted p fs)
 unfolding rooted
-rooted_answers p fs = go (new (take p.count p.ids) (take p.count p.weights)).answer
+rooted_answers p fs = go (new (take p.count p.ids) (take p.count p.weights))
   where
-    go : (a : Answer) → Answers (seated (new (take p.count p.ids) (take p.count p.weights)).voters (opened (word fs 0) (word fs 4)) a)
-    go Made = tt
-    go (Refused n) = tt
+    go : (a : Result VoterSet Refusal) → Answers (seated (opened (word fs 0) (word fs 4)) a)
+    go (Ok v) = tt
+    go (Err n) = tt
 
 based_answers : (v : VoterSet) (t : BlockTable) (fs : List ℕ) → Answers (based v t fs)
 unfolding based
@@ -139,7 +137,7 @@ through_then R e leaves left q l = l
 -- refusal 3: a set that is made weighs something, and no record changes it
 rooted_weighs : (p : Pairs) (fs : List ℕ) → Then Weighs (rooted p fs)
 unfolding rooted
-rooted_weighs p fs = go (new ids weights).answer refl
+rooted_weighs p fs = go (new ids weights) refl
   where
     ids : List ℕ
     ids = take p.count p.ids
@@ -147,9 +145,9 @@ rooted_weighs p fs = go (new ids weights).answer refl
     weights : List ℕ
     weights = take p.count p.weights
 
-    go : (a : Answer) → (new ids weights).answer ≡ a → Then Weighs (seated (new ids weights).voters (opened (word fs 0) (word fs 4)) a)
-    go Made m = let n = (made_fit ids weights m).some_weight in omega (arith, made_total ids weights m)
-    go (Refused n) m = tt
+    go : (a : Result VoterSet Refusal) → new ids weights ≡ a → Then Weighs (seated (opened (word fs 0) (word fs 4)) a)
+    go (Ok v) m = let n = (made_fit ids weights m).some_weight in omega (arith, made_total ids weights m)
+    go (Err n) m = tt
 
 based_weighs : (v : VoterSet) (t : BlockTable) → 0 < v.total → (fs : List ℕ) → Then Weighs (based v t fs)
 unfolding based

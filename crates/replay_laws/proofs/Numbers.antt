@@ -2,7 +2,7 @@
 use mathlib.Core.Bool.{Bool, true, false, cond}
 use mathlib.Core.List.{List, ◌∷◌, ◌++◌}
 use mathlib.Core.Logic.{◌≢◌}
-use mathlib.Core.Path.{◌≡◌, refl, subst, ◌∙◌}
+use mathlib.Core.Path.{◌≡◌, refl, ap, subst, ◌∙◌}
 use Prim.Native.Nat.{ℕ, ◌≤◌}
 use native.Mathlib.Omega.{arith}
 use lib.Dec.{eqb, leb, ltb}
@@ -17,9 +17,6 @@ use Rattle.voter_pairs.specs.Voters as pairs
 use Rattle.voter_info.specs.declared.VoterInfo.{VoterInfo}
 use Rattle.voter_info.specs.Info.{look_up}
 use Rattle.voter_set.specs.declared.VoterSet.{VoterSet}
-use Rattle.voter_set.specs.declared.Answer.{Answer}
-use Rattle.voter_set.specs.declared.Answer.TheVariants.{Made, Refused}
-use Rattle.voter_set.specs.Voters as set
 use Rattle.voter_set.specs.Voters.{new}
 use Rattle.blocks.specs.declared.BlockTable.{BlockTable}
 use Rattle.blocks.specs.declared.Added.{Added}
@@ -64,6 +61,7 @@ use Rattle.replay_laws.proofs.Holds.{then_all, through_then}
 use Rattle.replay_laws.proofs.Ends.{folded_has, replay_ends}
 use Rattle.std.specs.Prelude.{Option, Some, None, Result, Ok, Err}
 use Rattle.refusals.specs.declared.Refusal.{Refusal}
+use Rattle.refusals.specs.Number.{number}
 use Rattle.refusals.specs.declared.Refusal.TheVariants.{OutOfTurn, UnknownMark, KnownBlock, NoWeight, NumberOverflow, OffTheBase, TableFull, TooManyVoters, UnknownBase, UnknownParent, UnknownTarget, VoterList, WeightOverflow, WrongNumber}
 
 -- either way of a test
@@ -73,30 +71,27 @@ either P false x y p q = q
 
 -- a refusal's number has a property; nothing is said of what is taken
 abbrev pub Numbered : {S : Type 0} → (ℕ → Type 0) → Next S → Type 0
-Numbered Q (stops n) = Q n
+Numbered Q (stops n) = Q (number n)
 Numbered Q (goes s) = Unit {0}
 Numbered Q leaves = Unit {0}
 
 -- a voter set: 2 to 4, where the lists are as long as each other and not too long
-abbrev OfSet : Answer → Type 0
-OfSet Made = Unit {0}
-OfSet (Refused n) = (2 ≤ n) × (n ≤ 4)
+abbrev OfSet : Result VoterSet Refusal → Type 0
+OfSet (Ok v) = Unit {0}
+OfSet (Err n) = (2 ≤ number n) × (number n ≤ 4)
 
-new_numbers : (ids weights : List ℕ) → length ids ≡ length weights → length ids ≤ PAIRS → OfSet (new ids weights).answer
+new_numbers : (ids weights : List ℕ) → length ids ≡ length weights → length ids ≤ PAIRS → OfSet (new ids weights)
 unfolding new
 new_numbers ids weights same few =
     rw (eq-eqb (length ids) (length weights) same, le-ltb PAIRS (length ids) few)
-    (either P (ltb most (total_of weights)) (set.refused WeightOverflow) _ (omega arith, omega arith)
-    (either P (eqb (total_of weights) 0) (set.refused NoWeight) _ (omega arith, omega arith)
-    (either P (ltb VOTERS (length (pairs.voters ids weights (length ids)))) (set.refused TooManyVoters) _ (omega arith, omega arith) tt)))
-  where
-    P : Result VoterSet Refusal → Type 0
-    P x = OfSet x.answer
+    (either OfSet (ltb most (total_of weights)) (Err WeightOverflow) _ (omega arith, omega arith)
+    (either OfSet (eqb (total_of weights) 0) (Err NoWeight) _ (omega arith, omega arith)
+    (either OfSet (ltb VOTERS (length (pairs.voters ids weights (length ids)))) (Err TooManyVoters) _ (omega arith, omega arith) tt)))
 
 -- a block: 5 to 8
 abbrev OfBlock : Result ℕ Refusal → Type 0
 OfBlock (Ok k) = Unit {0}
-OfBlock (Err n) = (5 ≤ n) × (n ≤ 8)
+OfBlock (Err n) = (5 ≤ number n) × (number n ≤ 8)
 
 step_numbers : (t : BlockTable) (id parent : ℕ) → OfBlock (step t id parent).answer
 unfolding step append
@@ -114,7 +109,7 @@ step_numbers t id parent =
 
 -- a vote: 11 to 13
 abbrev OfVote : Result ImportResult Refusal → Type 0
-OfVote (Err n) = (11 ≤ n) × (n ≤ 13)
+OfVote (Err n) = (11 ≤ number n) × (number n ≤ 13)
 OfVote (Ok result.Outside) = Unit {0}
 OfVote (Ok result.Counted) = Unit {0}
 OfVote (Ok result.Duplicated) = Unit {0}
@@ -175,7 +170,7 @@ votes_numbers s (Ok result.Ignored) q = tt
 rooted_numbers : (p : Pairs) → Paired (pairing p) → (fs : List ℕ) → Numbered (Own voters Rt) (rooted p fs)
 unfolding rooted
 rooted_numbers p h fs =
-    go (new ids weights).answer
+    go (new ids weights)
     (new_numbers ids weights (omega (arith, length-take p.count p.ids, length-take p.count p.weights, h.0, h.1))
     (omega (arith, length-take p.count p.ids, h.2)))
   where
@@ -185,9 +180,9 @@ rooted_numbers p h fs =
     weights : List ℕ
     weights = take p.count p.weights
 
-    go : (a : Answer) → OfSet a → Numbered (Own voters Rt) (seated (new ids weights).voters (opened (word fs 0) (word fs 4)) a)
-    go Made q = tt
-    go (Refused n) q = q
+    go : (a : Result VoterSet Refusal) → OfSet a → Numbered (Own voters Rt) (seated (opened (word fs 0) (word fs 4)) a)
+    go (Ok v) q = tt
+    go (Err n) q = q
 
 based_numbers : (v : VoterSet) (t : BlockTable) (fs : List ℕ) → Numbered (Own blocks Op) (based v t fs)
 unfolding based
@@ -276,11 +271,11 @@ pairs_sized p h Pc fs = tt
 
 rooted_paired : (p : Pairs) (fs : List ℕ) → Then Paired (rooted p fs)
 unfolding rooted
-rooted_paired p fs = go (new (take p.count p.ids) (take p.count p.weights)).answer
+rooted_paired p fs = go (new (take p.count p.ids) (take p.count p.weights))
   where
-    go : (a : Answer) → Then Paired (seated (new (take p.count p.ids) (take p.count p.weights)).voters (opened (word fs 0) (word fs 4)) a)
-    go Made = tt
-    go (Refused n) = tt
+    go : (a : Result VoterSet Refusal) → Then Paired (seated (opened (word fs 0) (word fs 4)) a)
+    go (Ok v) = tt
+    go (Err n) = tt
 
 based_paired : (v : VoterSet) (t : BlockTable) (fs : List ℕ) → Then Paired (based v t fs)
 unfolding based
@@ -299,7 +294,7 @@ took_paired (voting r) h m fs =
     through_then Paired voting (voted r m fs) (stops OutOfTurn) (then_all (λ (s : Voting). Unit {0}) (λ s. tt) (voted r m fs)) tt
 
 -- a record that a replay refuses: its number is one of its own
-pub refused_number : (es : List Entry) (e : Entry) (n : Refusal) → took (taken es).state e.mark e.fields ≡ stops n → Own (part_of (taken es).state) e.mark n
+pub refused_number : (es : List Entry) (e : Entry) (n : Refusal) → took (taken es).state e.mark e.fields ≡ stops n → Own (part_of (taken es).state) e.mark (number n)
 refused_number es e n q =
     let h = folded_has took Paired took_paired (pairing no_pairs) es (refl, refl, omega arith) in
     subst (Numbered (Own (part_of (taken es).state) e.mark)) q (took_numbers (taken es).state h e.mark e.fields)
@@ -311,7 +306,7 @@ only_unknown bs = go (replayed bs) (replay_ends bs)
     go : (r : Replay) → Ends bs r → r.stop ≡ Err UnknownMark → ((taken (parsed bs)).end ≡ Cut) × (read (tail bs) ≡ is.Unknown)
     go _ (at_end c e) s = absurd (let z : ◌≡◌ {A = ℕ} 0 1 = cc in omega arith)
     go _ (at_mark c e) s = (c, e)
-    go _ (at_record es e later n p c q) s = let k : n ≡ 17 = cc in absurd ((own_means (part_of (taken es).state) e.mark n (refused_number es e n q)).0 k)
+    go _ (at_record es e later n p c q) s = let k : n ≡ UnknownMark = cc in absurd ((own_means (part_of (taken es).state) e.mark (number n) (refused_number es e n q)).0 (ap number k))
 
 -- 18: the records before one that is out of turn are taken
 pub only_out_of_turn : (bs : List ℕ) → (replayed bs).stop ≡ Err OutOfTurn
@@ -323,6 +318,6 @@ only_out_of_turn bs = go (replayed bs) (replay_ends bs)
         → (es : List Entry) × (e : Entry) × (later : List Entry) × (parsed bs ≡ es ++ (e ∷ later)) × ((taken es).end ≡ Cut)
         × (may (part_of (taken es).state) e.mark ≡ false)
     go _ (at_end c e) s = absurd (let z : ◌≡◌ {A = ℕ} 0 1 = cc in omega arith)
-    go _ (at_mark c e) s = absurd (let z : ◌≡◌ {A = ℕ} 17 18 = cc in omega arith)
+    go _ (at_mark c e) s = absurd (let z : ◌≡◌ {A = ℕ} 0 1 = cc in omega arith)
     go _ (at_record es e later n p c q) s =
-        let k : n ≡ 18 = cc in (es, e, later, p, c, (own_means (part_of (taken es).state) e.mark n (refused_number es e n q)).1 k)
+        let k : n ≡ OutOfTurn = cc in (es, e, later, p, c, (own_means (part_of (taken es).state) e.mark (number n) (refused_number es e n q)).1 (ap number k))

@@ -9,8 +9,6 @@ use lib.ListN.{take}
 use Rattle.sizes.specs.Sizes.{PAIRS}
 use Rattle.loops.proofs.Tests.{T_true}
 use Rattle.voter_set.specs.declared.VoterSet.{VoterSet}
-use Rattle.voter_set.specs.declared.Answer.{Answer}
-use Rattle.voter_set.specs.declared.Answer.TheVariants.{Made, Refused}
 use Rattle.voter_set.specs.Voters.{new}
 use Rattle.blocks.specs.declared.BlockTable.{BlockTable}
 use Rattle.blocks.specs.Add.{place_of, on_place}
@@ -64,11 +62,11 @@ GoesTo p j = part_of j ≡ p
 
 rooted_part : (p : Pairs) (fs : List ℕ) → Then (GoesTo blocks) (rooted p fs)
 unfolding rooted
-rooted_part p fs = go (new (take p.count p.ids) (take p.count p.weights)).answer
+rooted_part p fs = go (new (take p.count p.ids) (take p.count p.weights))
   where
-    go : (a : Answer) → Then (GoesTo blocks) (seated (new (take p.count p.ids) (take p.count p.weights)).voters (opened (word fs 0) (word fs 4)) a)
-    go Made = refl
-    go (Refused n) = tt
+    go : (a : Result VoterSet Refusal) → Then (GoesTo blocks) (seated (opened (word fs 0) (word fs 4)) a)
+    go (Ok v) = refl
+    go (Err n) = tt
 
 based_part : (v : VoterSet) (t : BlockTable) (fs : List ℕ) → Then (GoesTo votes) (based v t fs)
 unfolding based
