@@ -69,10 +69,6 @@ pub struct State {
 pub fn opened(number: u64, voters: VoterSet, table: BlockTable, base: u8) -> Round
     ensures { result ≡ opened number voters table base }
 {
-    let graph = VoteGraph::new(base);
-    let votes = tracker::no_votes();
-    let stored = answers::no_answers();
-    let heard = answers::no_heard();
     Round {
         number,
         context: Context {
@@ -80,16 +76,16 @@ pub fn opened(number: u64, voters: VoterSet, table: BlockTable, base: u8) -> Rou
             equivocations: [0u64; WORDS],
         },
         table,
-        graph,
-        votes,
+        graph: VoteGraph::new(base),
+        votes: tracker::no_votes(),
         history: History {
             entries: [0u16; HISTORY],
             count: 0,
             prevoted: None,
             precommitted: None,
         },
-        heard,
-        answers: stored,
+        heard: answers::no_heard(),
+        answers: answers::no_answers(),
     }
 }
 
@@ -177,10 +173,7 @@ pub fn block_of<'a>(
 pub fn heard_in(graph: VoteGraph, phase: Phase) -> u32
     ensures { result ≡ heard_in graph phase }
 {
-    let rows = graph.rows;
-    let row = rows[climbs::wide(graph.base)];
-    let bits = row.bits;
-    context::weighing::heard(bits, phase)
+    context::weighing::heard(graph.rows[climbs::wide(graph.base)].bits, phase)
 }
 
 // Records of recorded votes from the start of what is lent: those of a list of entries.
@@ -260,48 +253,41 @@ impl Round {
     pub fn is_round(self) -> bool
         ensures { result ≡ shaped self }
     {
-        let table = self.table;
-        let graph = self.graph;
-        if !graph.is_graph(table) {
+        if !self.graph.is_graph(self.table) {
             return false;
         }
-        let context = self.context;
-        let voters = context.voters;
-        if !voters.is_good() {
+        if !self.context.voters.is_good() {
             return false;
         }
-        let rows = graph.rows;
-        let words = graph_rows::words_of(rows);
-        let votes = self.votes;
-        let history = self.history;
-        let equivocations = context.equivocations;
+        let words = graph_rows::words_of(self.graph.rows);
         if !are_told(
-            voters.count,
-            &table.parents,
-            graph.base,
-            &graph.used,
+            self.context.voters.count,
+            &self.table.parents,
+            self.graph.base,
+            &self.graph.used,
             &words,
-            votes,
-            equivocations,
-            history,
+            self.votes,
+            self.context.equivocations,
+            self.history,
         ) {
             return false;
         }
-        let root = words[climbs::wide(graph.base)];
-        let heard = self.heard;
-        if !answer_shape::is_weighed(&voters.weights, root, heard) {
+        let root = words[climbs::wide(self.graph.base)];
+        if !answer_shape::is_weighed(&self.context.voters.weights, root, self.heard) {
             return false;
         }
-        let answers = self.answers;
-        if !answer_shape::are_stored(&table.parents, table.count, graph.base, answers) {
+        if !answer_shape::are_stored(
+            &self.table.parents,
+            self.table.count,
+            self.graph.base,
+            self.answers,
+        ) {
             return false;
         }
-        let prevoted = history.prevoted;
-        if !index_fits(prevoted) {
+        if !index_fits(self.history.prevoted) {
             return false;
         }
-        let precommitted = history.precommitted;
-        index_fits(precommitted)
+        index_fits(self.history.precommitted)
     }
 
     // One more block.
@@ -314,26 +300,16 @@ impl Round {
                 round: self,
             };
         }
-        let table = self.table;
-        let mut ids = table.ids;
-        let mut numbers = table.numbers;
-        let mut parents = table.parents;
+        let count = self.table.count;
         let answer = blocks::add(
-            &mut ids,
-            &mut numbers,
-            &mut parents,
-            table.count,
+            &mut self.table.ids,
+            &mut self.table.numbers,
+            &mut self.table.parents,
+            count,
             id,
             parent,
         );
-        let count = blocks::counted(table.count, answer);
-        let table_after = BlockTable {
-            ids,
-            numbers,
-            parents,
-            count,
-        };
-        self.table = table_after;
+        self.table.count = blocks::counted(count, answer);
         After {
             answer,
             round: self,
@@ -350,35 +326,19 @@ impl Round {
         requires { T (shaped self) }
         ensures { result ≡ imported phase signer pair self }
     {
-        let context = self.context;
-        let voters = context.voters;
+        let voters = self.context.voters;
         let table = self.table;
-        let graph = self.graph;
-        let votes = self.votes;
-        let history = self.history;
-        let mut used = graph.used;
-        let mut above = graph.above;
-        let rows = graph.rows;
-        let mut words = graph_rows::words_of(rows);
-        let mut order = graph.order;
-        let mut heads = graph.heads;
-        let mut counts = votes.counts;
-        let mut first_block = votes.first_block;
-        let mut first_signature = votes.first_signature;
-        let mut second_target = votes.second_target;
-        let mut second_number = votes.second_number;
-        let mut second_signature = votes.second_signature;
-        let mut entries = history.entries;
-        let equivocations = context.equivocations;
-        let heard = self.heard;
-        let stored = self.answers;
+        let number = self.number;
+        let base = self.graph.base;
+        let equivocations = self.context.equivocations;
+        let mut words = graph_rows::words_of(self.graph.rows);
         let standing = Standing {
-            listed: graph.listed,
-            tips: graph.tips,
-            count: history.count,
+            listed: self.graph.listed,
+            tips: self.graph.tips,
+            count: self.history.count,
             equivocations,
-            heard,
-            answers: stored,
+            heard: self.heard,
+            answers: self.answers,
         };
         let step = importing::import(
             &voters.ids,
@@ -386,74 +346,40 @@ impl Round {
             voters.count,
             voters.total,
             voters.threshold,
-            self.number,
+            number,
             &table.ids,
             &table.numbers,
             &table.parents,
             table.count,
-            graph.base,
-            &mut used,
-            &mut above,
+            base,
+            &mut self.graph.used,
+            &mut self.graph.above,
             &mut words,
-            &mut order,
-            &mut heads,
-            &mut counts,
-            &mut first_block,
-            &mut first_signature,
-            &mut second_target,
-            &mut second_number,
-            &mut second_signature,
-            &mut entries,
+            &mut self.graph.order,
+            &mut self.graph.heads,
+            &mut self.votes.counts,
+            &mut self.votes.first_block,
+            &mut self.votes.first_signature,
+            &mut self.votes.second_target,
+            &mut self.votes.second_number,
+            &mut self.votes.second_signature,
+            &mut self.history.entries,
             standing,
             phase,
             signer,
             pair,
         );
-        let answer = step.answer;
-        let after = step.standing;
-        let equivocators = after.equivocations;
-        let told = after.heard;
-        let answers = after.answers;
-        let base = graph.base;
-        let prevoted = history.prevoted;
-        let precommitted = history.precommitted;
         let rows = graph_rows::rows_of(&words);
-        let context_after = Context {
-            voters,
-            equivocations: equivocators,
-        };
-        self.context = context_after;
-        let graph_after = VoteGraph {
-            base,
-            used,
-            above,
-            rows,
-            order,
-            listed: after.listed,
-            heads,
-            tips: after.tips,
-        };
-        self.graph = graph_after;
-        let votes_after = Votes {
-            counts,
-            first_block,
-            first_signature,
-            second_target,
-            second_number,
-            second_signature,
-        };
-        self.votes = votes_after;
-        let history_after = History {
-            entries,
-            count: after.count,
-            prevoted,
-            precommitted,
-        };
-        self.history = history_after;
-        self.heard = told;
-        self.answers = answers;
+        self.graph.rows = rows;
+        self.graph.listed = step.standing.listed;
+        self.graph.tips = step.standing.tips;
+        self.history.count = step.standing.count;
+        let equivocators = step.standing.equivocations;
+        self.context.equivocations = equivocators;
+        self.heard = step.standing.heard;
+        self.answers = step.standing.answers;
         After {
-            answer,
+            answer: step.answer,
             round: self,
         }
     }
@@ -492,32 +418,23 @@ impl Round {
         requires { T (shaped self) }
         ensures { result ≡ sought self }
     {
-        let context = self.context;
-        let voters = context.voters;
-        let table = self.table;
-        let graph = self.graph;
-        let rows = graph.rows;
-        let words = graph_rows::words_of(rows);
-        let equivocations = context.equivocations;
-        let heard = self.heard;
-        let answers = self.answers;
-        let stored = answers.precommit;
+        let words = graph_rows::words_of(self.graph.rows);
         answers::phase_ghost(
-            &table.parents,
-            &graph.used,
-            &graph.above,
+            &self.table.parents,
+            &self.graph.used,
+            &self.graph.above,
             &words,
-            &graph.order,
-            graph.listed,
-            &graph.heads,
-            graph.tips,
-            &voters.weights,
-            graph.base,
-            voters.threshold,
-            equivocations,
+            &self.graph.order,
+            self.graph.listed,
+            &self.graph.heads,
+            self.graph.tips,
+            &self.context.voters.weights,
+            self.graph.base,
+            self.context.voters.threshold,
+            self.context.equivocations,
             Phase::Precommit,
-            heard.precommit,
-            stored,
+            self.heard.precommit,
+            self.answers.precommit,
         )
     }
 
@@ -549,8 +466,7 @@ impl Round {
                 round: self,
             };
         }
-        let history = self.history;
-        self.history = marked(history, phase);
+        self.history = marked(self.history, phase);
         After {
             answer: Ok(()),
             round: self,
@@ -683,19 +599,21 @@ impl Round {
         requires { T (shaped self) }
         ensures { ◌≡◌ {A = Lent} (record { answer = result; bytes = out.new }) (listed wanted self out.old) }
     {
-        let context = self.context;
-        let voters = context.voters;
-        let table = self.table;
-        let votes = self.votes;
         let list = listing::entries_of(
-            &votes.counts,
-            &votes.first_block,
-            &table.parents,
-            voters.count,
+            &self.votes.counts,
+            &self.votes.first_block,
+            &self.table.parents,
+            self.context.voters.count,
             wanted,
         );
-        let entries = list.entries;
-        records(entries, list.count, voters, table, votes, out)
+        records(
+            list.entries,
+            list.count,
+            self.context.voters,
+            self.table,
+            self.votes,
+            out,
+        )
     }
 
     pub fn prevotes(self, out: &mut [u8]) -> Result<usize, Refusal>
@@ -717,13 +635,15 @@ impl Round {
         ensures { ◌≡◌ {A = Lent} (record { answer = result; bytes = out.new }) (historical_votes self out.old) }
     {
         self.tested()?;
-        let context = self.context;
-        let voters = context.voters;
-        let table = self.table;
-        let votes = self.votes;
         let history = self.history;
-        let entries = history.entries;
-        records(entries, history.count, voters, table, votes, out)
+        records(
+            history.entries,
+            history.count,
+            self.context.voters,
+            self.table,
+            self.votes,
+            out,
+        )
     }
 
     // The precommits that finalize the finalized block.

@@ -3,4 +3,4 @@ use Rattle.round.proofs.opened.Goals as goal
 
 pub returns : goal.returns
 unfolding opened
-returns c = rw (c.new-graph.ensures, c.no_votes-votes.ensures, c.no_answers-stored.ensures, c.no_heard-heard.ensures)
+returns c = rw (c.new.ensures, c.no_votes.ensures, c.no_answers.ensures, c.no_heard.ensures)

@@ -11,9 +11,9 @@ returns-then-not-is_round c = rw (sym c.is_round.ensures ∙ c.if-not-is_round.t
 pub add-answer-requires : goal.add-answer-requires
 add-answer-requires c = few_blocks _ (T_true (sym c.is_round.ensures ∙ c.if-not-is_round.false))
 
-pub counted-count-requires : goal.counted-count-requires
-counted-count-requires c = few_blocks _ (T_true (sym c.is_round.ensures ∙ c.if-not-is_round.false))
+pub counted-self-requires : goal.counted-self-requires
+counted-self-requires c = few_blocks _ (T_true (sym c.is_round.ensures ∙ c.if-not-is_round.false))
 
 pub returns : goal.returns
 unfolding add_block
-returns c = rw (sym c.is_round.ensures ∙ c.if-not-is_round.false, c.counted-count.ensures, sym c.add-answer.ensures)
+returns c = rw (sym c.is_round.ensures ∙ c.if-not-is_round.false, c.counted-self.ensures, sym c.add-answer.ensures)
