@@ -242,7 +242,7 @@ module _ (up above : ℕ → ℕ) (falls : (k : ℕ) → above k ≤ pred k) (b 
         few = omega (arith, s.few);
       }
 
-  pub between_end : (visited : List Bool) (places : List ℕ) (count k n : ℕ) → Between visited places count k → k ≡ n
-      → ◌≡◌ {A = Places} (record { places = places; count = count }) (placed (upto n))
+  pub between_end : (visited : List Bool) (places : List ℕ) (count k : ℕ) → Between visited places count k → front k heads ≡ heads
+      → ◌≡◌ {A = Places} (record { places = places; count = count }) (placed (found up above heads b))
   unfolding placed
-  between_end visited places count k n s e = rw (s.places_are, s.count_is, e)
+  between_end visited places count k s e = rw (s.places_are, s.count_is, e)

@@ -1,9 +1,8 @@
 // `find_containing_nodes` of vote_graph.rs, on lent columns.
 #![tactic(auto)]
 
-ghost use Rattle.std.specs.Prelude.{◌≡◌, ◌≤◌};
+ghost use Rattle.std.specs.Prelude.{◌≡◌, ◌≤◌, length};
 ghost use Rattle.sizes.specs.Sizes.{BLOCKS};
-ghost use Rattle.loops.specs.Listing.{front};
 ghost use Rattle.climbs.specs.Places.{col, Falls};
 ghost use Rattle.nodes.specs.Nodes.{placed, found};
 
@@ -13,21 +12,20 @@ use sizes::BLOCKS;
 
 // The nodes whose edge holds a block that has none, by way of the node above each. What an earlier head settled is not
 // climbed again.
-pub fn find_containing_nodes<'a>(
-    parents: &'a [u8; BLOCKS],
-    above: &'a [u8; BLOCKS],
-    heads: &'a [u8; BLOCKS],
-    tips: usize,
+pub fn find_containing_nodes(
+    parents: &[u8; BLOCKS],
+    above: &[u8; BLOCKS],
+    heads: &[u8],
     block: u8,
 ) -> Places
-    requires { (Falls parents.now) × (Falls above.now) × (tips ≤ BLOCKS) }
-    ensures { result ≡ placed (found (col parents.now) (col above.now) (front tips heads.now) block) }
+    requires { (Falls parents.now) × (Falls above.now) × (length heads.now ≤ BLOCKS) }
+    ensures { result ≡ placed (found (col parents.now) (col above.now) heads.now block) }
 {
     let mut visited = [false; BLOCKS];
     let mut places = [0u8; BLOCKS];
     let mut count = 0;
-    'next: for k in 0..tips {
-        let mut node = heads[k];
+    'next: for head in heads {
+        let mut node = *head;
         loop {
             if node <= block {
                 continue 'next;
@@ -46,7 +44,7 @@ pub fn find_containing_nodes<'a>(
                 continue 'next;
             }
             places[count] = node;
-            count = count + 1;
+            count += 1;
             continue 'next;
         }
     }

@@ -21,8 +21,8 @@ pub fn childless<'a>(
     ensures { result ≡ childless used.now above.now (front listed order.now) }
 {
     let mut left = *used;
-    for k in 0..listed {
-        let over = wide(above[wide(order[k])]);
+    for node in &order[..listed] {
+        let over = wide(above[wide(*node)]);
         left[over] = false;
     }
     left
@@ -33,32 +33,15 @@ pub fn rising<'a>(ids: &'a [u32; BLOCKS], heads: &'a [u8; BLOCKS], tips: usize) 
     requires { tips ≤ BLOCKS }
     ensures { result ≡ rising ids.now heads.now tips }
 {
-    for k in 0..tips {
-        if !rises(ids, heads, k) {
-            return false;
-        }
-    }
-    true
-}
-
-fn rises<'a>(ids: &'a [u32; BLOCKS], heads: &'a [u8; BLOCKS], k: usize) -> bool
-    requires { k < BLOCKS }
-    ensures { result ≡ eqb k 0 || ltb (col ids.now (col heads.now (k - 1))) (col ids.now (col heads.now k)) }
-{
-    if k == 0 {
-        return true;
-    }
-    let before = wide(heads[k - 1]);
-    let at = wide(heads[k]);
-    ids[before] < ids[at]
+    heads[..tips].is_sorted_by(|before, head| ids[wide(*before)] < ids[wide(*head)])
 }
 
 // Whether there are no bits where there is no node.
 pub fn bare<'a>(used: &'a [bool; BLOCKS], rows: &'a [[u64; WORDS]; BLOCKS]) -> bool
     ensures { result ≡ bare used.now rows.now }
 {
-    for k in 0..BLOCKS {
-        if !is_bare(used[k], rows[k]) {
+    for (node, bits) in used.iter().zip(rows) {
+        if !is_bare(*node, *bits) {
             return false;
         }
     }

@@ -71,15 +71,18 @@ module _ (p : ℕ → Bool) (xs : List ℕ) where
             (next_padded BLOCKS (keep p (front k xs)) (get_or xs k 0) (omega (arith, length_kept p k xs)) ∙ ap (padded BLOCKS) (sym (keep_front p k xs e)));
       }
 
-  pub laid_end : (n m : ℕ) (places : List ℕ) (k : ℕ) → Laid p xs k places m → k ≡ n → record { places = places; count = m } ≡ placed (keep p (front n xs))
-  unfolding placed
-  laid_end n m places k l e = rw (l.places_are, l.count_is, e)
-
 -- a column read as a list, and back
 pub front_take : (n : ℕ) (l : List ℕ) → n ≤ length l → front n l ≡ take n l
 unfolding front
 front_take zero l h = refl
 front_take (suc n) l h = rw (front_take n l (omega arith)) (sym (take-suc l n 0 (omega arith)))
+
+pub front_all : (l : List ℕ) → front (length l) l ≡ l
+front_all l = front_take (length l) l (omega arith) ∙ take-length l
+
+-- where a loop over a list ends
+pub front_end : (k : ℕ) (l : List ℕ) → k ≤ length l → length l ≤ k → front k l ≡ l
+front_end k l h e = ap (λ (n : ℕ). front n l) (omega arith) ∙ front_all l
 
 front_cong : (n : ℕ) (xs ys : List ℕ) → ((k : ℕ) → get_or xs k 0 ≡ get_or ys k 0) → front n xs ≡ front n ys
 unfolding front
@@ -87,7 +90,13 @@ front_cong zero xs ys h = refl
 front_cong (suc n) xs ys h = rw (front_cong n xs ys h, h n)
 
 pub front_padded : (n : ℕ) (l : List ℕ) → front (length l) (padded n l) ≡ l
-front_padded n l = front_cong (length l) (padded n l) l (get_padded n l) ∙ front_take (length l) l (omega arith) ∙ take-length l
+front_padded n l = front_cong (length l) (padded n l) l (get_padded n l) ∙ front_all l
+
+-- the end of the loop that keeps the places that pass
+pub laid_end : (p : ℕ → Bool) (xs : List ℕ) (m : ℕ) (places : List ℕ) (k : ℕ) → Laid p xs k places m → front k xs ≡ xs
+    → ◌≡◌ {A = Places} (record { places = places; count = m }) (placed (keep p xs))
+unfolding placed
+laid_end p xs m places k l e = rw (l.places_are, l.count_is, e)
 
 -- a list comes back from the column and the count that hold it
 pub placed_front : (m : Places) (l : List ℕ) → m ≡ placed l → front m.count m.places ≡ l

@@ -7,7 +7,7 @@ use Prim.Native.Nat.{ℕ, zero, suc, pred, ◌≤◌, ◌<◌}
 use native.Mathlib.Decide.{ℕ_discrete}
 use native.Mathlib.Omega.{arith}
 use lib.Dec.{T, leb, eqb, leb→le, nleb→lt, T_not}
-use Rattle.loops.specs.Listing.{times, keep, fold, front}
+use Rattle.loops.specs.Listing.{times, fold, front}
 use Rattle.loops.proofs.Tests.{by_test, dec_T}
 use Rattle.loops.proofs.Listings.{times_here, times_more, keep_cong}
 use Rattle.grandpa.specs.Tree.{below}

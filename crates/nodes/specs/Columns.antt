@@ -1,6 +1,6 @@
 -- The vote graph in columns. Document 01, "Forms that must change": arrays with counts, kept in the Rust's order; "Shape
 -- rules": every node but the base listed once, under the nearest node above it; heads the nodes that list none.
-use Rattle.std.specs.Prelude.{Bool, List, ◌≡◌, ◌≢◌, ℕ, ◌≤◌, ◌<◌, T, length, Option, Some, None}
+use Rattle.std.specs.Prelude.{Bool, List, ◌≡◌, ◌≢◌, ℕ, ◌≤◌, ◌<◌, T, length}
 use Rattle.sizes.specs.Sizes.{WORDS, BLOCKS}
 use Rattle.lent.specs.Moment.{Moment}
 use Rattle.loops.specs.Listing.{front}

@@ -2,7 +2,7 @@
 // its block.
 #![tactic(auto)]
 
-ghost use Rattle.std.specs.Prelude.{Bool, ◌≡◌, List, ℕ, ◌≤◌, ◌<◌};
+ghost use Rattle.std.specs.Prelude.{Bool, ◌≡◌, List, ℕ, ◌≤◌, ◌<◌, length};
 ghost use Rattle.sizes.specs.Sizes.{BLOCKS};
 ghost use Rattle.loops.specs.Listing.{front, keep};
 ghost use Rattle.context.specs.declared.Phase.TheVariants.{Precommit};
@@ -22,6 +22,16 @@ use sizes::{BLOCKS, VOTERS, WORDS};
 pub struct Places {
     pub places: [u8; BLOCKS],
     pub count: usize,
+}
+
+impl Places {
+    // The places that count.
+    pub fn as_slice(&self) -> &[u8]
+        requires { self.now.count ≤ BLOCKS }
+        ensures { result.now ≡ front self.now.count self.now.places }
+    {
+        &self.places[..self.count]
+    }
 }
 
 // A question that is asked of a node's bits: what the Rust hands its searches as a closure.
@@ -69,32 +79,27 @@ impl<'a> Asks for Possible<'a> {
 }
 
 // The joined bits of the nodes at places.
-pub fn join_of<'a>(
-    rows: &'a [[u64; WORDS]; BLOCKS],
-    places: &'a [u8; BLOCKS],
-    count: usize,
-) -> [u64; WORDS]
-    requires { count ≤ BLOCKS }
-    ensures { result ≡ join_of (row rows.now) (front count places.now) }
+pub fn join_of(rows: &[[u64; WORDS]; BLOCKS], places: &[u8]) -> [u64; WORDS]
+    ensures { result ≡ join_of (row rows.now) places.now }
 {
     let mut bits = [0u64; WORDS];
-    for k in 0..count {
-        let node = wide(places[k]);
+    for place in places {
+        let node = wide(*place);
         let more = bitfield::merge(bits, rows[node]);
         bits = more;
     }
     bits
 }
 
-// Those of the first `count` places that pass a test, in their order.
-pub fn keep<F: Fn(u8) -> bool>(places: &[u8; BLOCKS], count: usize, passes: F) -> Places
-    requires fits { count ≤ BLOCKS }
+// Those of some places that pass a test, in their order.
+pub fn keep<F: Fn(u8) -> bool>(places: &[u8], passes: F) -> Places
+    requires fits { length places.now ≤ BLOCKS }
     requires callable { F.IsAlwaysCallable passes }
-    ensures { (p : ℕ → Bool) → Tests (F.post passes) p → result ≡ placed (keep p (front count places.now)) }
+    ensures { (p : ℕ → Bool) → Tests (F.post passes) p → result ≡ placed (keep p places.now) }
 {
     let mut kept = [0u8; BLOCKS];
     let mut n = 0;
-    for place in &places[..count] {
+    for place in places {
         if passes(*place) {
             kept[n] = *place;
             n = n + 1;
@@ -108,29 +113,19 @@ pub fn keep<F: Fn(u8) -> bool>(places: &[u8; BLOCKS], count: usize, passes: F) -
 
 // The nodes listed under a node, in their order.
 #[tactic(auto, unfolding(crate::specs::Nodes::listed_under))]
-pub fn children<'a>(
-    above: &'a [u8; BLOCKS],
-    order: &'a [u8; BLOCKS],
-    listed: usize,
-    node: u8,
-) -> Places
-    requires { listed ≤ BLOCKS }
-    ensures { result ≡ placed (listed_under (col above.now) (front listed order.now) node) }
+pub fn children(above: &[u8; BLOCKS], order: &[u8], node: u8) -> Places
+    requires { length order.now ≤ BLOCKS }
+    ensures { result ≡ placed (listed_under (col above.now) order.now node) }
 {
-    keep(order, listed, |child| above[wide(child)] == node)
+    keep(order, |child| above[wide(child)] == node)
 }
 
 // Those of some places that lie strictly below a block.
-pub fn strictly_below<'a>(
-    parents: &'a [u8; BLOCKS],
-    places: &'a [u8; BLOCKS],
-    count: usize,
-    block: u8,
-) -> Places
-    requires { (Falls parents.now) × (count ≤ BLOCKS) }
-    ensures { result ≡ placed (keep (under (col parents.now) block) (front count places.now)) }
+pub fn strictly_below(parents: &[u8; BLOCKS], places: &[u8], block: u8) -> Places
+    requires { (Falls parents.now) × (length places.now ≤ BLOCKS) }
+    ensures { result ≡ placed (keep (under (col parents.now) block) places.now) }
 {
-    keep(places, count, |place| is_under(parents, block, place))
+    keep(places, |place| is_under(parents, block, place))
 }
 
 fn is_under(parents: &[u8; BLOCKS], block: u8, place: u8) -> bool

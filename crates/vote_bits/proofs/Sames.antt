@@ -6,17 +6,15 @@ use mathlib.Core.Logic.{◌≢◌}
 use Prim.Native.Nat.{ℕ, zero, suc, ◌+◌, ◌^◌, ◌≤◌, ◌<◌}
 use native.Mathlib.Decide.{ℕ_discrete}
 use native.Mathlib.Omega.{arith}
-use lib.Dec.{T, eqb, ltb, eqb→eq, ltb→lt}
+use lib.Dec.{T, eqb, ltb, ltb→lt}
+use lib.Pointwise.{pointwise, bytes_decides}
 use lib.ListN.{get_or, length, replicate, get_or-eq_default}
-use lib.Seq.{ext_get_or}
 use borrow.Author.Tests.{eq-eqb, ne_eqb, lt-ltb, le-ltb}
 use Rattle.sizes.specs.Sizes.{WORDS, VOTES}
-use Rattle.loops.specs.All.{all}
-use Rattle.loops.proofs.Tests.{T_true, true_T, false_not, same_test, and_false, or_false}
+use Rattle.loops.proofs.Tests.{T_true, true_T, same_test, and_false, or_false}
 use Rattle.loops.proofs.Alls.{all_at, all_intro, all_cong}
 use Rattle.bitfield.specs.Bits.{has, put}
 use Rattle.bitfield.proofs.Sets.{Fits, has_none, has_put, length_put, set_ext}
-use Rattle.nodes.specs.Nodes.{col}
 use Rattle.vote_bits.specs.Told.{same_bits}
 
 pub beq_eq : (a b : Bool) → T (beq a b) → a ≡ b
@@ -40,23 +38,11 @@ module _ (a b : List ℕ) (sa : length a ≡ WORDS) (sb : length b ≡ WORDS) wh
   same_eq : Fits a → Fits b → T (same_bits a (has b)) → a ≡ b
   same_eq fa fb t = set_ext a b (sa ∙ sym sb) fa fb (λ c h. beq_eq (has a c) (has b c) (all_at _ VOTES t c (omega (arith, sa))))
 
-  pub other_words : Fits a → Fits b → get_or a 0 0 ≢ get_or b 0 0 → false ≡ same_bits a (has b)
-  other_words fa fb n =
-      sym (false_not (same_bits a (has b)) (λ t. n (ap (λ (ws : List ℕ). get_or ws 0 0) (same_eq fa fb t))))
-
-  pub same_words : Fits a → Fits b → get_or a 0 0 ≡ get_or b 0 0 → eqb (get_or a 1 0) (get_or b 1 0) ≡ same_bits a (has b)
-  same_words fa fb e =
-      same_test (eqb (get_or a 1 0) (get_or b 1 0)) (same_bits a (has b))
-      (λ t. subst (λ (ws : List ℕ). T (same_bits a (has ws))) (whole (eqb→eq (get_or a 1 0) (get_or b 1 0) t)) (all_intro _ VOTES (λ j h. beq_refl (has a j))))
-      (λ t. T_true (eq-eqb (get_or a 1 0) (get_or b 1 0) (ap (λ (ws : List ℕ). get_or ws 1 0) (same_eq fa fb t))))
-    where
-      whole : get_or a 1 0 ≡ get_or b 1 0 → a ≡ b
-      whole d = ext_get_or 0 a b (sa ∙ sym sb) at
-        where
-          at : (i : ℕ) → i < length a → get_or a i 0 ≡ get_or b i 0
-          at zero h = e
-          at (suc zero) h = d
-          at (suc (suc i)) h = absurd (omega arith)
+  pub same_lists : Fits a → Fits b → pointwise eqb a b ≡ same_bits a (has b)
+  same_lists fa fb =
+      same_test (pointwise eqb a b) (same_bits a (has b))
+      (λ t. subst (λ (ws : List ℕ). T (same_bits a (has ws))) ((bytes_decides a b).0 (true_T _ t)) (all_intro _ VOTES (λ j h. beq_refl (has a j))))
+      (λ t. T_true ((bytes_decides a b).1 (same_eq fa fb t)))
 
 -- the indices before k that pass
 abbrev pub upto : (ℕ → Bool) → ℕ → ℕ → Bool

@@ -10,9 +10,6 @@ ghost use Rattle.vote_bits.specs.Told.{lies, same_bits, told, doubled, Held};
 use climbs::wide;
 use sizes::{BLOCKS, VOTES, WORDS};
 
-// The last place of a block.
-const LAST: usize = BLOCKS - 1;
-
 // Whether the bits of every node are the first votes for it and for blocks below it.
 pub fn told<'a>(
     parents: &'a [u8; BLOCKS],
@@ -53,33 +50,25 @@ fn join_votes<'a>(
         let more = bitfield::set_bit(bits, j);
         rows[at] = more;
     }
-    let mut low = LAST;
-    while 0 < low {
+    for low in (1..BLOCKS).rev() {
         let over = wide(parents[low]);
         let bits = rows[low];
         let above = rows[over];
         let more = bitfield::merge(above, bits);
         rows[over] = more;
-        low = low - 1;
     }
 }
 
 fn is_told(node: bool, bits: [u64; WORDS], first: [u64; WORDS]) -> bool
     ensures { result ≡ not node || same_bits bits (has first) }
 {
-    if !node {
-        return true;
-    }
-    same_bits(bits, first)
+    !node || same_bits(bits, first)
 }
 
 fn same_bits(a: [u64; WORDS], b: [u64; WORDS]) -> bool
     ensures { result ≡ same_bits a (has b) }
 {
-    if a[0] != b[0] {
-        return false;
-    }
-    a[1] == b[1]
+    a == b
 }
 
 // Whether the equivocators' bits are those of two pairs.

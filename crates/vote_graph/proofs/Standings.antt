@@ -15,14 +15,13 @@ use Rattle.blocks.specs.declared.BlockTable.{BlockTable}
 use Rattle.blocks.specs.Add.{place_of, on_place}
 use Rattle.block_laws.proofs.Adds.{found_stands}
 use Rattle.graph.specs.Ghost as steps
-use Rattle.graph.specs.Graph.{tally}
+use Rattle.graph.specs.Graph.{no_bits, tally}
 use Rattle.nodes.specs.Nodes.{col, flag, Falls}
 use Rattle.nodes.specs.Columns.{Columns, Sound, view}
 use Rattle.graph_rows.specs.declared.Row.{Row}
 use Rattle.graph_rows.specs.Rows.{words_of, rows_of}
 use Rattle.vote_insert.specs.Insert.{inserted, Insertable}
 use Rattle.vote_insert.proofs.Keeps.{insertable, sound_inserted}
-use Rattle.vote_search.specs.declared.Tally.{Tally}
 use Rattle.vote_search.specs.Searches.{tallied, unlisted, Stands}
 use Rattle.vote_search.proofs.Ancestors.{tallied_is}
 use Rattle.vote_graph.specs.declared.VoteGraph.{VoteGraph}
@@ -31,13 +30,9 @@ use Rattle.vote_graph.specs.Target.{in_base, target, start, on_target}
 use Rattle.vote_graph.specs.Calls.{voted, tally_of, ancestor_of, ghost_of}
 use Rattle.vote_graph.proofs.Shapes.{Kept, is_graph_means}
 use Rattle.std.specs.Bool.{then_some}
-use Rattle.std.specs.Prelude.{Option, Some, None, Result, Ok, Err}
+use Rattle.std.specs.Prelude.{Option, Some, None, Result, Ok, Err, unwrap_or}
 use Rattle.refusals.specs.declared.Refusal.{Refusal}
 use Rattle.refusals.specs.declared.Refusal.TheVariants.{OffTheBase, UnknownTarget}
-
-pub some_where : {A : Type 0} (b : Bool) (x : A) → then_some b x ≡ cond b (Some x) None
-some_where true x = refl
-some_where false x = refl
 
 at_most_one : {e : Refusal} {k : ℕ} → ◌≡◌ {A = Result ℕ Refusal} (Err e) (Ok k) → ⊥
 at_most_one q = let z : ◌≡◌ {A = ℕ} 0 1 = cc in omega arith
@@ -131,7 +126,7 @@ module _ (g : VoteGraph) (t : BlockTable) (k : ℕ) (w : List (List ℕ)) (e : w
       ∙ ap (graph_of g.base) q
       ∙ ap (λ (v : List (List ℕ)). graph_of g.base (inserted t.parents t.ids g.base k bit (lent g v))) e
 
-  pub tally_is : (r : Tally) → r ≡ tallied t.parents g.used g.above w g.heads g.tips k → r ≡ tally_of g t k
+  pub tally_is : (r : Option (List ℕ)) → r ≡ tallied t.parents g.used g.above w g.heads g.tips k → r ≡ tally_of g t k
   unfolding tally_of
   tally_is r q = q ∙ ap (λ (v : List (List ℕ)). tallied t.parents g.used g.above v g.heads g.tips k) e
 
@@ -148,7 +143,7 @@ module _ (g : VoteGraph) (t : BlockTable) (k : ℕ) (w : List (List ℕ)) (e : w
     ghost_is r p = p ∙ ap (λ (v : List (List ℕ)). (steps.find_ghost (col t.parents) (view (lent g v)) ok k)) e
 
 -- the bits that `cumulative_vote` gives are the graph's
-pub tally_told : (g : VoteGraph) (t : BlockTable) (k : ℕ) → Standing g t k → (tally_of g t k).bits ≡ tally (col t.parents) (view (columns g)) k
+pub tally_told : (g : VoteGraph) (t : BlockTable) (k : ℕ) → Standing g t k → unwrap_or (tally_of g t k) no_bits ≡ tally (col t.parents) (view (columns g)) k
 unfolding tally_of
 tally_told g t k s =
     tallied_is t.parents t.ids g.base t.count (columns g) (is_graph_means g t s.shaped).sound k s.in_base

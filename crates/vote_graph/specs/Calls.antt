@@ -8,7 +8,6 @@ use Rattle.graph.specs.Ghost as ghost_steps
 use Rattle.nodes.specs.Nodes.{col}
 use Rattle.nodes.specs.Columns.{view}
 use Rattle.vote_insert.specs.Insert.{inserted}
-use Rattle.vote_search.specs.declared.Tally.{Tally}
 use Rattle.vote_search.specs.Searches.{tallied}
 use Rattle.vote_graph.specs.declared.VoteGraph.{VoteGraph}
 use Rattle.vote_graph.specs.declared.Inserted.{Inserted}
@@ -32,17 +31,14 @@ insert g t id bit =
     cond (is_graph g t) (on_target (target t.ids t.parents t.count g.base id) (placed g t bit) (refused g)) (refused g Misshapen)
 
 -- `cumulative_vote`. The Rust gives no votes for a block that is not in the graph.
-unfoldable pub tally_of : VoteGraph → BlockTable → ℕ → Tally
+unfoldable pub tally_of : VoteGraph → BlockTable → ℕ → Option (List ℕ)
 tally_of g t k = let c = columns g in tallied t.parents c.used c.above c.rows c.heads c.tips k
-
-abbrev pub cumulative : Tally → Option (List ℕ)
-cumulative t = cond t.inside (Some t.bits) None
 
 unfoldable pub cumulative_vote : VoteGraph → BlockTable → ℕ → Result (Option (List ℕ)) Refusal
 cumulative_vote g t id =
     cond (is_graph g t)
     (on_place (place_of t.ids t.count id)
-    (λ k. Ok (cond (below (col t.parents) g.base k) (cumulative (tally_of g t k)) None))
+    (λ k. Ok (cond (below (col t.parents) g.base k) (tally_of g t k) None))
     (Err UnknownTarget))
     (Err Misshapen)
 

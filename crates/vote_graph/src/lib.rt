@@ -12,7 +12,6 @@ use graph_rows::Row;
 use nodes::Asks;
 use refusals::Refusal;
 use sizes::{BLOCKS, WORDS};
-use vote_search::Tally;
 
 // Where a block stands that a call names, or why it is refused.
 pub mod named;
@@ -176,11 +175,10 @@ impl VoteGraph {
         if !climbs::reaches(&table.parents, self.base, place) {
             return Ok(None);
         }
-        let tally = self.tally(table, place);
-        Ok(tally.inside.then_some(tally.bits))
+        Ok(self.tally(table, place))
     }
 
-    fn tally(self, table: BlockTable, place: u8) -> Tally
+    fn tally(self, table: BlockTable, place: u8) -> Option<[u64; WORDS]>
         requires { Standing self table place }
         ensures { result ≡ tally_of self table place }
     {

@@ -4,14 +4,15 @@ use mathlib.Core.List.{List, [], ◌∷◌, ◌++◌}
 use mathlib.Core.Path.{◌≡◌, refl, sym, ap, subst, ◌∙◌}
 use mathlib.Core.Logic.{◌≢◌}
 use Prim.Native.Nat.{ℕ, zero, suc, ◌+◌, ◌-◌, ◌≤◌, ◌<◌}
-use native.Mathlib.Nat.{zero-add, add-zero}
+use native.Mathlib.Nat.{zero-add, add-zero, sub-zero}
 use native.Mathlib.Numerals.{add-one}
 use native.Mathlib.Omega.{arith}
-use lib.ListN.{get_or}
+use lib.ListN.{get_or, length}
 use Rattle.loops.specs.Listing.{times, front}
 use Rattle.loops.proofs.Tests.{by_test}
 use Rattle.loops.proofs.Listings.{times_here, times_more}
 use Rattle.graph.specs.Ghost.{first_in}
+use Rattle.nodes.proofs.Lists.{front_all}
 
 pub not_swap : (a b : Bool) → b ≡ not a → a ≡ not b
 not_swap true b e = ap not (sym e)
@@ -29,11 +30,14 @@ rest_more (suc n) k xs =
     let e : k + suc n ≡ suc k + n = omega arith in
     rw e (ap (λ (l : List ℕ). get_or xs k 0 ∷ l) (rest_more n (suc k) xs))
 
-pub front_rest : (n : ℕ) (xs : List ℕ) → front n xs ≡ rest n 0 xs
+front_rest : (n : ℕ) (xs : List ℕ) → front n xs ≡ rest n 0 xs
 unfolding front
 front_rest zero xs = unfold rest in refl
 front_rest (suc n) xs =
     rw (front_rest n xs) (subst (λ (k : ℕ). rest n 0 xs ++ (get_or xs k 0 ∷ []) ≡ rest (suc n) 0 xs) (zero-add n) (rest_more n 0 xs))
+
+pub whole_rest : (xs : List ℕ) → xs ≡ rest (length xs - 0) 0 xs
+whole_rest xs = rw sub-zero (sym (front_all xs) ∙ front_rest (length xs) xs)
 
 pub rest_next : (n k : ℕ) (xs : List ℕ) → k < n → rest (n - k) k xs ≡ get_or xs k 0 ∷ rest (n - (k + 1)) (k + 1) xs
 unfolding rest

@@ -13,17 +13,11 @@ use nodes::{Asks, Places};
 use sizes::{BLOCKS, WORDS};
 
 // The first of some nodes whose bits answer a question with yes, or 0.
-pub fn first_passing<'a, Q: Asks>(
-    rows: &'a [[u64; WORDS]; BLOCKS],
-    question: &'a Q,
-    places: &'a [u8; BLOCKS],
-    count: usize,
-) -> u8
-    requires { count ≤ BLOCKS }
-    ensures { result ≡ first_in (λ n. Q.asks question.now (row rows.now n)) (front count places.now) }
+pub fn first_passing<Q: Asks>(rows: &[[u64; WORDS]; BLOCKS], question: &Q, places: &[u8]) -> u8
+    ensures { result ≡ first_in (λ n. Q.asks question.now (row rows.now n)) places.now }
 {
-    for k in 0..count {
-        let node = places[k];
+    for place in places {
+        let node = *place;
         let at = wide(node);
         let votes = rows[at];
         if question.passes(votes) {
@@ -35,21 +29,20 @@ pub fn first_passing<'a, Q: Asks>(
 
 // The first child of a block in which a second node meets those before it, where their joined bits answer a question with
 // yes, or 0.
-pub fn meets<'a, Q: Asks>(
-    parents: &'a [u8; BLOCKS],
-    rows: &'a [[u64; WORDS]; BLOCKS],
-    question: &'a Q,
-    places: &'a [u8; BLOCKS],
-    count: usize,
+pub fn meets<Q: Asks>(
+    parents: &[u8; BLOCKS],
+    rows: &[[u64; WORDS]; BLOCKS],
+    question: &Q,
+    places: &[u8],
     block: u8,
 ) -> u8
-    requires { (Falls parents.now) × (count ≤ BLOCKS) }
-    ensures { result ≡ meets (col parents.now) (row rows.now) (Q.asks question.now) block [] (front count places.now) }
+    requires { Falls parents.now }
+    ensures { result ≡ meets (col parents.now) (row rows.now) (Q.asks question.now) block [] places.now }
 {
     let mut seen = [false; BLOCKS];
     let mut joined = [[0u64; WORDS]; BLOCKS];
-    for k in 0..count {
-        let node = places[k];
+    for place in places {
+        let node = *place;
         let child = climbs::towards(parents, block, node);
         if node == child {
             continue;
@@ -72,10 +65,10 @@ pub fn meets<'a, Q: Asks>(
 
 // From a block down the blocks in which nodes meet, while their joined bits answer a question with yes. Fewer than two
 // nodes do not meet.
-pub fn merge_point<'a, Q: Asks>(
-    parents: &'a [u8; BLOCKS],
-    rows: &'a [[u64; WORDS]; BLOCKS],
-    question: &'a Q,
+pub fn merge_point<Q: Asks>(
+    parents: &[u8; BLOCKS],
+    rows: &[[u64; WORDS]; BLOCKS],
+    question: &Q,
     nodes: Places,
     block: u8,
 ) -> u8
@@ -83,17 +76,15 @@ pub fn merge_point<'a, Q: Asks>(
     ensures { result ≡ merge (col parents.now) (row rows.now) (Q.asks question.now) BLOCKS block (front nodes.count nodes.places) }
 {
     let mut best = block;
-    let mut places = nodes.places;
-    let mut count = nodes.count;
-    while 1 < count {
-        let child = meets(parents, rows, question, &places, count, best);
+    let mut left = nodes;
+    while 1 < left.count {
+        let places = left.as_slice();
+        let child = meets(parents, rows, question, places, best);
         if child == 0 {
             return best;
         }
-        let fewer = nodes::strictly_below(parents, &places, count, child);
-        let kept = fewer.places;
-        places = kept;
-        count = fewer.count;
+        let fewer = nodes::strictly_below(parents, places, child);
+        left = fewer;
         best = child;
     }
     best

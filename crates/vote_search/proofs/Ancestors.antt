@@ -6,45 +6,77 @@ use mathlib.Core.Logic.{◌≢◌}
 use Prim.Native.Nat.{ℕ, zero, suc, pred, ◌≤◌, ◌<◌}
 use native.Mathlib.Decide.{ℕ_discrete}
 use native.Mathlib.Omega.{arith}
-use lib.Dec.{T, eqb, ltb}
-use lib.ListN.{length}
-use borrow.Author.Tests.{eq-eqb, ne_eqb, lt-ltb, le-ltb}
-use Rattle.loops.specs.Listing.{times, front}
+use lib.Dec.{T, eqb}
+use lib.ListN.{take, length}
+use borrow.Author.Tests.{eq-eqb, ne_eqb}
+use Rattle.loops.specs.Listing.{times, fold, front}
 use Rattle.loops.proofs.Tests.{T_true, T_false}
 use Rattle.loops.proofs.Listings.{times_here, times_none}
 use Rattle.grandpa.specs.Tree.{below}
 use Rattle.grandpa.specs.Answers.{search_up, first_of}
 use Rattle.grandpa.proofs.Trees.{below_refl, below_up, below_trans, below_le, below_step}
 use Rattle.graph.specs.Search.{containing}
-use Rattle.graph.specs.Graph.{join_of, tally}
+use Rattle.graph.specs.Graph.{join_of, no_bits, tally}
 use Rattle.graph.specs.Ghost.{is_nil, find_ancestor}
 use Rattle.graph.proofs.Found.{containing_only, containing_over}
 use Rattle.nodes.specs.declared.Places.{Places}
 use Rattle.nodes.specs.Nodes.{col, flag, row, placed, found}
 use Rattle.nodes.specs.Columns.{Columns, Sound, view}
-use Rattle.vote_search.specs.declared.Tally.{Tally}
 use Rattle.vote_search.specs.Searches.{tallied, unlisted}
-use Rattle.nodes.proofs.Lists.{placed_front, placed_count}
-use Rattle.vote_merge.proofs.Turns.{not_swap}
+use Rattle.nodes.proofs.Lists.{front_take, placed_front, placed_count}
 use Rattle.nodes.proofs.Tied.{found_is}
 use Rattle.std.specs.Prelude.{Option, Some, None}
+use Rattle.core.specs.Option.{unwrap_or}
 
-some_left : (l : List ℕ) → ltb 0 (length l) ≡ not (is_nil l)
-some_left [] = le-ltb 0 0 (omega arith)
-some_left (x ∷ l) = lt-ltb 0 (suc (length l)) (omega arith)
+nil_left : (l : List ℕ) → length l ≡ 0 → is_nil l ≡ true
+nil_left [] e = refl
+nil_left (x ∷ l) e = absurd (omega arith)
 
--- the two ways of `cumulative_vote`
+some_left : (l : List ℕ) → length l ≢ 0 → is_nil l ≡ false
+some_left [] d = absurd (d refl)
+some_left (x ∷ l) d = refl
+
+-- the three ways of `cumulative_vote`
 module _ (parents : List ℕ) (used : List Bool) (above : List ℕ) (rows : List (List ℕ)) (heads : List ℕ) (tips b : ℕ) where
-  pub tallied_node : (k : ℕ) → k ≡ b → flag used k ≡ true → record { inside = true; bits = row rows k } ≡ tallied parents used above rows heads tips b
+  pub tallied_node : (k : ℕ) → k ≡ b → flag used k ≡ true → Some (row rows k) ≡ tallied parents used above rows heads tips b
   unfolding tallied
   tallied_node k e u = rw (← e, u)
 
-  pub tallied_bare : (k : ℕ) → k ≡ b → flag used k ≡ false → (m : Places) → m ≡ placed (found (col parents) (col above) (front tips heads) b)
-      → (v : List ℕ) → v ≡ join_of (row rows) (front m.count m.places)
-      → record { inside = ltb 0 m.count; bits = v } ≡ tallied parents used above rows heads tips b
-  unfolding tallied
-  tallied_bare k e u m p v q =
-      rw (sym (ap (flag used) e) ∙ u, placed_count m _ p, some_left (found (col parents) (col above) (front tips heads) b), q, placed_front m _ p)
+  module _ (k : ℕ) (e : k ≡ b) (u : flag used k ≡ false) (h : tips ≤ length heads) (m : Places)
+      (p : m ≡ placed (found (col parents) (col above) (take tips heads) b)) where
+    abbrev ns : List ℕ
+    ns = found (col parents) (col above) (take tips heads) b
+
+    pub tallied_none : m.count ≡ 0 → None ≡ tallied parents used above rows heads tips b
+    unfolding tallied
+    tallied_none z = rw (sym (ap (flag used) e) ∙ u, front_take tips heads h, nil_left ns (sym (placed_count m _ p) ∙ z))
+
+    pub tallied_bare : m.count ≢ 0 → (xs : List ℕ) → xs ≡ front m.count m.places → (v : List ℕ) → v ≡ join_of (row rows) xs
+        → Some v ≡ tallied parents used above rows heads tips b
+    unfolding tallied
+    tallied_bare d xs x v q =
+        rw (
+          sym (ap (flag used) e) ∙ u,
+          front_take tips heads h,
+          some_left ns (λ z. d (placed_count m _ p ∙ z)),
+          q,
+          x,
+          placed_front m _ p,
+        )
+
+-- what a test says of an answer that it picks
+picked_none : {A : Type 0} (z : Bool) (o : Option A) (x : A) → o ≡ None → o ≡ cond z None (Some x) → z ≡ true
+picked_none true o x e q = refl
+picked_none false o x e q = absurd (let z : ◌≡◌ {A = ℕ} 0 1 = cc in omega arith)
+
+picked_some : {A : Type 0} (z : Bool) (o : Option A) (x y : A) → o ≡ Some y → o ≡ cond z None (Some x) → (z ≡ false) × (y ≡ x)
+picked_some true o x y e q = absurd (let z : ◌≡◌ {A = ℕ} 0 1 = cc in omega arith)
+picked_some false o x y e q = (refl, ap (λ (r : Option _). unwrap_or r x) (sym e ∙ q))
+
+no_nodes : (bits : ℕ → List ℕ) (l : List ℕ) → unwrap_or (cond (is_nil l) None (Some (join_of bits l))) no_bits ≡ join_of bits l
+unfolding join_of fold
+no_nodes bits [] = refl
+no_nodes bits (x ∷ l) = refl
 
 module _ (up : ℕ → ℕ) (falls : (k : ℕ) → up k ≤ pred k) (ok : ℕ → Bool) (base : ℕ) where
   search_fuel : (f g b : ℕ) → b < f → b < g → T (below up base b) → search_up up ok base f b ≡ search_up up ok base g b
@@ -86,26 +118,27 @@ module _ (parents ids : List ℕ) (base count : ℕ) (g : Columns) (sound : Soun
   abbrev heads : List ℕ
   heads = front g.tips g.heads
 
-  abbrev at : ℕ → Tally
+  abbrev at : ℕ → Option (List ℕ)
   at b = tallied parents g.used g.above g.rows g.heads g.tips b
 
   -- a block in the graph has a node or is on an edge
   abbrev outside : ℕ → Bool
   outside b = not (used b) && is_nil (containing up used heads b)
 
-  pub tallied_is : (b : ℕ) → T (below up base b) → (at b).bits ≡ tally up (view g) b
+  -- no bits where it is not in the graph
+  pub tallied_is : (b : ℕ) → T (below up base b) → unwrap_or (at b) no_bits ≡ tally up (view g) b
   unfolding tallied tally
   tallied_is b l = go (used b) refl
     where
-      go : (z : Bool) → used b ≡ z → (at b).bits ≡ tally up (view g) b
+      go : (z : Bool) → used b ≡ z → unwrap_or (at b) no_bits ≡ tally up (view g) b
       go true e = rw e
-      go false e = rw (e, found_is parents ids base count g sound b l (T_false e))
+      go false e = rw (e, found_is parents ids base count g sound b l (T_false e)) (no_nodes (row g.rows) (containing up used heads b))
 
-  pub tallied_inside : (b : ℕ) → T (below up base b) → (at b).inside ≡ not (outside b)
-  unfolding tallied
-  tallied_inside b l = go (used b) refl
+  pub tallied_says : (b : ℕ) → T (below up base b) → at b ≡ cond (outside b) None (Some (tally up (view g) b))
+  unfolding tallied tally
+  tallied_says b l = go (used b) refl
     where
-      go : (z : Bool) → used b ≡ z → (at b).inside ≡ not (outside b)
+      go : (z : Bool) → used b ≡ z → at b ≡ cond (outside b) None (Some (tally up (view g) b))
       go true e = rw e
       go false e = rw (e, found_is parents ids base count g sound b l (T_false e))
 
@@ -157,27 +190,27 @@ module _ (parents ids : List ℕ) (base count : ℕ) (g : Columns) (sound : Soun
     abbrev answer : ℕ → Option ℕ
     answer b = find_ancestor up (unlisted g.used g.rows g.heads g.tips) base ok b
 
-    module _ (b : ℕ) (l : T (below up base b)) (v : Tally) (told : v ≡ at b) where
-      outside_is : (z : Bool) → v.inside ≡ z → outside b ≡ not z
-      outside_is z e = not_swap (outside b) z (sym e ∙ ap (λ (t : Tally). t.inside) told ∙ tallied_inside b l)
-
-      bits_are : (z : Bool) → ok v.bits ≡ z → ok (tally up (unlisted g.used g.rows g.heads g.tips) b) ≡ z
-      bits_are z e = ap ok (tally_unlisted b ∙ sym (tallied_is b l) ∙ sym (ap (λ (t : Tally). t.bits) told)) ∙ e
-
-      pub ancestor_none : v.inside ≡ false → answer b ≡ None
+    module _ (b : ℕ) (l : T (below up base b)) (v : Option (List ℕ)) (told : v ≡ at b) where
+      pub ancestor_none : v ≡ None → answer b ≡ None
       unfolding find_ancestor
-      ancestor_none e = rw (outside_is false e)
+      ancestor_none e = rw (picked_none (outside b) v _ e (told ∙ tallied_says b l))
 
-      module _ (inside : v.inside ≡ true) where
-        pub ancestor_here : ok v.bits ≡ true → answer b ≡ Some b
+      module _ (bits : List ℕ) (inside : v ≡ Some bits) where
+        says : (outside b ≡ false) × (bits ≡ tally up (view g) b)
+        says = picked_some (outside b) v _ bits inside (told ∙ tallied_says b l)
+
+        bits_are : (z : Bool) → ok bits ≡ z → ok (tally up (unlisted g.used g.rows g.heads g.tips) b) ≡ z
+        bits_are z e = ap ok (tally_unlisted b ∙ sym says.1) ∙ e
+
+        pub ancestor_here : ok bits ≡ true → answer b ≡ Some b
         unfolding find_ancestor
-        ancestor_here e = rw (outside_is true inside) (first_here up sound.parents_fall _ base b (bits_are true e))
+        ancestor_here e = rw says.0 (first_here up sound.parents_fall _ base b (bits_are true e))
 
-        pub ancestor_base : ok v.bits ≡ false → b ≡ base → answer b ≡ None
+        pub ancestor_base : ok bits ≡ false → b ≡ base → answer b ≡ None
         unfolding find_ancestor
-        ancestor_base e q = rw (outside_is true inside) (first_base up sound.parents_fall _ base b (bits_are false e) q)
+        ancestor_base e q = rw says.0 (first_base up sound.parents_fall _ base b (bits_are false e) q)
 
-        pub ancestor_up : ok v.bits ≡ false → b ≢ base → answer b ≡ answer (up b)
+        pub ancestor_up : ok bits ≡ false → b ≢ base → answer b ≡ answer (up b)
         unfolding find_ancestor
         ancestor_up e d =
-            rw (outside_is true inside, outside_up b (outside_is true inside)) (first_up up sound.parents_fall _ base b (bits_are false e) d l)
+            rw (says.0, outside_up b says.0) (first_up up sound.parents_fall _ base b (bits_are false e) d l)

@@ -6,7 +6,7 @@ use mathlib.Core.Logic.{◌≢◌}
 use Prim.Native.Nat.{ℕ, zero, suc, pred, ◌≤◌, ◌<◌}
 use native.Mathlib.Omega.{arith}
 use lib.Dec.{T, eqb, eqb→eq}
-use lib.ListN.{length}
+use lib.ListN.{take, length}
 use borrow.Author.Tests.{eq-eqb, ne_eqb}
 use Rattle.sizes.specs.Sizes.{BLOCKS}
 use Rattle.loops.specs.Listing.{keep, front}
@@ -14,25 +14,30 @@ use Rattle.loops.proofs.Listings.{kept_in}
 use Rattle.grandpa.specs.Tree.{below}
 use Rattle.grandpa.proofs.Trees.{below_up, below_trans, below_le, below_step}
 use Rattle.graph.specs.Search.{nearest}
-use Rattle.graph.specs.Graph.{Graph, tally, children}
+use Rattle.graph.specs.Graph.{Graph, no_bits, tally, children}
 use Rattle.graph.specs.Ghost.{under, first_in, merge, settle, following, descend, find_ghost}
 use Rattle.graph.proofs.Climbs.{nearest_says}
 use Rattle.graph.proofs.Followed.{is_under}
 use Rattle.nodes.specs.declared.Places.{Places}
 use Rattle.nodes.specs.Nodes.{col, flag, row, placed, listed_under}
 use Rattle.nodes.specs.Columns.{Columns, Sound, view}
-use Rattle.nodes.proofs.Lists.{length_kept, length_keep, placed_front, placed_count}
-use Rattle.vote_search.specs.declared.Tally.{Tally}
+use Rattle.nodes.proofs.Lists.{front_take, length_kept, length_keep, placed_front, placed_count}
 use Rattle.vote_merge.specs.Merges.{Lower}
 use Rattle.vote_merge.proofs.Lowers.{lower_kept}
 use Rattle.vote_search.specs.Searches.{tallied, followed, unheaded}
 use Rattle.vote_search.proofs.Ancestors.{tallied_is}
 use Rattle.nodes.proofs.Tied.{listed_is}
-use Rattle.std.specs.Prelude.{Some, None}
+use Rattle.std.specs.Prelude.{Option, Some, None}
+use Rattle.core.specs.Option.{unwrap_or}
 
 length_listed : (above : ℕ → ℕ) (k : ℕ) (xs : List ℕ) (x : ℕ) → length (listed_under above (front k xs) x) ≤ k
 unfolding listed_under
 length_listed above k xs x = length_kept (λ n. eqb (above n) x) k xs
+
+-- the listing as the code reads it
+pub listed_as : (above : ℕ → ℕ) (k : ℕ) (xs : List ℕ) → k ≤ length xs → (x : ℕ) (m : Places) → m ≡ placed (listed_under above (take k xs) x)
+    → m ≡ placed (listed_under above (front k xs) x)
+listed_as above k xs h x m e = rw (front_take k xs h) e
 
 pub listed_few : (above : ℕ → ℕ) (k : ℕ) (xs : List ℕ) (x : ℕ) (m : Places) → m ≡ placed (listed_under above (front k xs) x) → m.count ≤ k
 listed_few above k xs x m e = omega (arith, placed_count m _ e, length_listed above k xs x)
@@ -50,11 +55,11 @@ followed_few parents used above order listed b m e =
 
 -- the two calls that find what follows
 pub followed_by : (parents : List ℕ) (used : List Bool) (above order : List ℕ) (listed b over : ℕ) (m k : Places) → over ≡ nearest (col parents) (flag used) b
-    → m ≡ placed (listed_under (col above) (front listed order) over) → k ≡ placed (keep (under (col parents) b) (front m.count m.places))
-    → k ≡ placed (followed parents used above order listed b)
+    → m ≡ placed (listed_under (col above) (front listed order) over) → (xs : List ℕ) → xs ≡ front m.count m.places
+    → k ≡ placed (keep (under (col parents) b) xs) → k ≡ placed (followed parents used above order listed b)
 unfolding followed
-followed_by parents used above order listed b over m k e p q =
-    q ∙ ap (λ (l : List ℕ). placed (keep (under (col parents) b) l)) (placed_front m _ p ∙ ap (listed_under (col above) (front listed order)) e)
+followed_by parents used above order listed b over m k e p xs x q =
+    q ∙ ap (λ (l : List ℕ). placed (keep (under (col parents) b) l)) (x ∙ placed_front m _ p ∙ ap (listed_under (col above) (front listed order)) e)
 
 -- the turns of the search down
 module _ (up : ℕ → ℕ) (g : Graph) (ok : List ℕ → Bool) (b : ℕ) (ns : List ℕ) where
@@ -122,14 +127,14 @@ module _ (parents ids : List ℕ) (base count : ℕ) (g : Columns) (sound : Soun
   ghost_from ok b e r q = rw (e, ← descend_unheaded ok b, ← q)
 
   -- the two ends of `find_ghost`
-  module _ (ok : List ℕ → Bool) (b : ℕ) (l : T (below (col parents) base b)) (v : Tally)
-      (told : v ≡ tallied parents g.used g.above g.rows g.heads g.tips b) where
-    asked : (z : Bool) → ok v.bits ≡ z → ok (tally (col parents) (view g) b) ≡ z
-    asked z e = ap ok (sym (tallied_is parents ids base count g sound b l) ∙ sym (ap (λ (t : Tally). t.bits) told)) ∙ e
+  module _ (ok : List ℕ → Bool) (b : ℕ) (l : T (below (col parents) base b)) (v : Option (List ℕ))
+      (told : v ≡ tallied parents g.used g.above g.rows g.heads g.tips b) (bits : List ℕ) (is : bits ≡ unwrap_or v no_bits) where
+    asked : (z : Bool) → ok bits ≡ z → ok (tally (col parents) (view g) b) ≡ z
+    asked z e = ap ok (sym (is ∙ ap (λ (o : Option (List ℕ)). unwrap_or o no_bits) told ∙ tallied_is parents ids base count g sound b l)) ∙ e
 
-    pub ghost_none : ok v.bits ≡ false → find_ghost (col parents) (view g) ok b ≡ None
+    pub ghost_none : ok bits ≡ false → find_ghost (col parents) (view g) ok b ≡ None
     unfolding find_ghost
     ghost_none e = rw (asked false e)
 
-    pub ghost_some : ok v.bits ≡ true → (r : ℕ) → r ≡ descend (col parents) bare ok b → find_ghost (col parents) (view g) ok b ≡ Some r
+    pub ghost_some : ok bits ≡ true → (r : ℕ) → r ≡ descend (col parents) bare ok b → find_ghost (col parents) (view g) ok b ≡ Some r
     ghost_some e = ghost_from ok b (asked true e)

@@ -17,8 +17,6 @@ use Rattle.graph.specs.Graph.{Graph}
 use Rattle.graph.specs.Ghost.{find_ancestor}
 use Rattle.nodes.specs.Nodes.{col, AtLeast, Possible, passes}
 use Rattle.nodes.specs.Columns.{Columns, Sound}
-use Rattle.vote_search.specs.declared.Tally.{Tally}
-use Rattle.vote_search.specs.declared.Both.{Both}
 use Rattle.vote_search.specs.Searches.{tallied, unlisted, of_precommits, both, or_else, this}
 use Rattle.vote_search.proofs.Ancestors.{ancestor_none, ancestor_here, ancestor_base, ancestor_up}
 use Rattle.std.specs.Prelude.{Option, Some, None}
@@ -62,8 +60,8 @@ module _ (parents ids : List ℕ) (base count : ℕ) (g : Columns) (sound : Soun
   abbrev answer : (List ℕ → Bool) → ℕ → Option ℕ
   answer ok b = find_ancestor up graph base ok b
 
-  module _ (b k : ℕ) (o : Option ℕ) (on : On up graph base weights equivocations p b k o) (v : Tally) (told : v ≡ tallied parents g.used g.above g.rows g.heads g.tips k) where
-    pub on_outside : v.inside ≡ false → record { weighty = None; possible = o } ≡ both up graph base weights equivocations p b
+  module _ (b k : ℕ) (o : Option ℕ) (on : On up graph base weights equivocations p b k o) (v : Option (List ℕ)) (told : v ≡ tallied parents g.used g.above g.rows g.heads g.tips k) where
+    pub on_outside : v ≡ None → record { weighty = None; possible = o } ≡ both up graph base weights equivocations p b
     unfolding both
     on_outside e =
         rw (
@@ -72,18 +70,18 @@ module _ (parents ids : List ℕ) (base count : ℕ) (g : Columns) (sound : Soun
         )
 
     -- a block weighed, and what is met with it
-    module _ (in_graph : v.inside ≡ true) (w : ℕ) (weighed : w ≡ weight_of weights (λ i. voted v.bits Precommit i || voted equivocations Precommit i))
+    module _ (bits : List ℕ) (in_graph : v ≡ Some bits) (w : ℕ) (weighed : w ≡ weight_of weights (λ i. voted bits Precommit i || voted equivocations Precommit i))
         (o' : Option ℕ) (noted : o' ≡ or_else o (this p w k)) where
-      weighty_by : (z : Bool) → leb p.threshold w ≡ z → weighty v.bits ≡ z
+      weighty_by : (z : Bool) → leb p.threshold w ≡ z → weighty bits ≡ z
       unfolding passes
       weighty_by z e = ap (leb p.threshold) (sym weighed) ∙ e
 
-      possible_by : (z : Bool) → enough p w ≡ z → possible v.bits ≡ z
+      possible_by : (z : Bool) → enough p w ≡ z → possible bits ≡ z
       unfolding passes
       possible_by z e = ap (enough p) (sym weighed) ∙ e
 
       possible_here : enough p w ≡ true → answer possible k ≡ Some k
-      possible_here e = ancestor_here parents ids base count g sound possible k on.inside v told in_graph (possible_by true e)
+      possible_here e = ancestor_here parents ids base count g sound possible k on.inside v told bits in_graph (possible_by true e)
 
       met_now : (answer possible k) ≡ this p w k → (answer possible b) ≡ o'
       met_now e = on.met ∙ ap (or_else o) e ∙ sym noted
@@ -93,7 +91,7 @@ module _ (parents ids : List ℕ) (base count : ℕ) (g : Columns) (sound : Soun
       on_weighty h =
           let t : enough p w ≡ true = le-leb p.threshold _ (omega arith) in
           rw (
-            on.weighs ∙ ancestor_here parents ids base count g sound weighty k on.inside v told in_graph (weighty_by true (le-leb p.threshold w h)),
+            on.weighs ∙ ancestor_here parents ids base count g sound weighty k on.inside v told bits in_graph (weighty_by true (le-leb p.threshold w h)),
             met_now (rw (possible_here t, t)),
           )
 
@@ -102,19 +100,19 @@ module _ (parents ids : List ℕ) (base count : ℕ) (g : Columns) (sound : Soun
         unfolding both
         on_base q =
             rw (
-              on.weighs ∙ ancestor_base parents ids base count g sound weighty k on.inside v told in_graph (weighty_by false (lt-leb p.threshold w light)) q,
+              on.weighs ∙ ancestor_base parents ids base count g sound weighty k on.inside v told bits in_graph (weighty_by false (lt-leb p.threshold w light)) q,
               met_now (here (enough p w) refl),
             )
           where
             here : (z : Bool) → enough p w ≡ z → (answer possible k) ≡ cond z (Some k) None
             here true e = (possible_here e)
-            here false e = (ancestor_base parents ids base count g sound possible k on.inside v told in_graph (possible_by false e) q)
+            here false e = (ancestor_base parents ids base count g sound possible k on.inside v told bits in_graph (possible_by false e) q)
 
         pub on_up : k ≢ base → (j : ℕ) → j ≡ k → On up graph base weights equivocations p b (up j) o'
         on_up d j i =
             rw i record {
               inside = below_step up sound.parents_fall base k on.inside (λ q. d (sym q));
-              weighs = on.weighs ∙ ancestor_up parents ids base count g sound weighty k on.inside v told in_graph (weighty_by false (lt-leb p.threshold w light)) d;
+              weighs = on.weighs ∙ ancestor_up parents ids base count g sound weighty k on.inside v told bits in_graph (weighty_by false (lt-leb p.threshold w light)) d;
               met =
                   on.met ∙ ap (or_else o) (here (enough p w) refl) ∙ or_or o (this p w k) ((answer possible (up k)))
                   ∙ ap (λ (x : Option ℕ). or_else x ((answer possible (up k)))) (sym noted);
@@ -122,4 +120,4 @@ module _ (parents ids : List ℕ) (base count : ℕ) (g : Columns) (sound : Soun
           where
             here : (z : Bool) → enough p w ≡ z → (answer possible k) ≡ or_else (cond z (Some k) None) ((answer possible (up k)))
             here true e = (possible_here e)
-            here false e = (ancestor_up parents ids base count g sound possible k on.inside v told in_graph (possible_by false e) d)
+            here false e = (ancestor_up parents ids base count g sound possible k on.inside v told bits in_graph (possible_by false e) d)

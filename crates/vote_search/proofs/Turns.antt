@@ -5,9 +5,8 @@ use Prim.Native.Nat.{ℕ, suc, ◌+◌, ◌≤◌}
 use native.Mathlib.Omega.{arith}
 use lib.Dec.{eqb}
 use lib.ListN.{length, length-append}
-use Rattle.loops.specs.Listing.{times, fold, front}
+use Rattle.loops.specs.Listing.{times, fold}
 use Rattle.loops.proofs.Tests.{by_test}
-use Rattle.loops.proofs.Listings.{length_front}
 use Rattle.graph.specs.Search.{note}
 use Rattle.nodes.specs.declared.Places.{Places}
 use Rattle.nodes.specs.Nodes.{placed, found, held}
@@ -25,7 +24,6 @@ unfolding fold
 noted_all f [] l = omega arith
 noted_all f (h ∷ hs) l = omega (arith, noted_all f hs (note (f h) l), noted (f h) l)
 
-pub found_few : (up above : ℕ → ℕ) (n : ℕ) (heads : List ℕ) (b : ℕ) (m : Places) → m ≡ placed (found up above (front n heads) b) → m.count ≤ n
+pub found_few : (up above : ℕ → ℕ) (heads : List ℕ) (b : ℕ) (m : Places) → m ≡ placed (found up above heads b) → m.count ≤ length heads
 unfolding found
-found_few up above n heads b m e =
-    omega (arith, placed_count m _ e, noted_all (held up above b) (front n heads) [], length_front n heads)
+found_few up above heads b m e = omega (arith, placed_count m _ e, noted_all (held up above b) heads [])

@@ -1,5 +1,5 @@
 -- `cumulative_vote` on lent columns, and what the searches ask of the columns that are lent to them.
-use Rattle.std.specs.Prelude.{Bool, true, cond, not, List, [], ℕ, T, Option, Some, None}
+use Rattle.std.specs.Prelude.{Bool, cond, List, [], ℕ, T, Option, Some, None}
 use Rattle.loops.specs.Listing.{front, keep}
 use Rattle.grandpa.specs.Tree.{below}
 use Rattle.grandpa.specs.Possible.{enough}
@@ -10,16 +10,14 @@ use Rattle.graph.specs.Graph.{Graph, join_of}
 use Rattle.graph.specs.Ghost.{is_nil, under, find_ancestor}
 use Rattle.nodes.specs.Nodes.{col, flag, row, found, listed_under, Condition, AtLeast, Possible, Question, passes}
 use Rattle.nodes.specs.Columns.{Columns, Sound}
-use Rattle.vote_search.specs.declared.Tally.{Tally}
 use Rattle.vote_search.specs.declared.Both.{Both}
 
 -- `cumulative_vote`: a node's own bits, else the joined bits of the nodes found. A block that has no node and is on no edge
 -- is not in the graph. `tallied_is` says that the bits are `tally`.
-unfoldable pub tallied : List ℕ → List Bool → List ℕ → List (List ℕ) → List ℕ → ℕ → ℕ → Tally
+unfoldable pub tallied : List ℕ → List Bool → List ℕ → List (List ℕ) → List ℕ → ℕ → ℕ → Option (List ℕ)
 tallied parents used above rows heads tips b =
     let ns = found (col parents) (col above) (front tips heads) b in
-    cond (flag used b) (record { inside = true; bits = row rows b })
-    (record { inside = not (is_nil ns); bits = join_of (row rows) ns })
+    cond (flag used b) (Some (row rows b)) (cond (is_nil ns) None (Some (join_of (row rows) ns)))
 
 -- the nodes that follow a block, by the nodes above. `followed_is` says that they are `following`.
 unfoldable pub followed : List ℕ → List Bool → List ℕ → List ℕ → ℕ → ℕ → List ℕ

@@ -15,13 +15,6 @@ use grandpa::PossibleToPrecommit;
 use nodes::{Asks, Places};
 use sizes::{BLOCKS, VOTERS, WORDS};
 
-// A block's bits, and whether it is in the graph at all.
-#[derive(Clone, Copy)]
-pub struct Tally {
-    pub inside: bool,
-    pub bits: [u64; WORDS],
-}
-
 // The first block of threshold weight and the first that can still get it.
 #[derive(Clone, Copy)]
 pub struct Both {
@@ -29,7 +22,8 @@ pub struct Both {
     pub possible: Option<u8>,
 }
 
-// Who voted at or below a block: its node's own bits, else those of the nodes whose edge holds it.
+// Who voted at or below a block: its node's own bits, else those of the nodes whose edge holds it. Nothing where it is not in
+// the graph.
 pub fn cumulative_vote<'a>(
     parents: &'a [u8; BLOCKS],
     used: &'a [bool; BLOCKS],
@@ -38,26 +32,21 @@ pub fn cumulative_vote<'a>(
     heads: &'a [u8; BLOCKS],
     tips: usize,
     block: u8,
-) -> Tally
+) -> Option<[u64; WORDS]>
     requires { (Falls parents.now) × (Falls above.now) × (tips ≤ BLOCKS) }
     ensures { result ≡ tallied parents.now used.now above.now rows.now heads.now tips block }
 {
     let at = wide(block);
     if used[at] {
         let own = rows[at];
-        return Tally {
-            inside: true,
-            bits: own,
-        };
+        return Some(own);
     }
-    let nodes = containing::find_containing_nodes(parents, above, heads, tips, block);
-    let places = nodes.places;
-    let count = nodes.count;
-    let joined = nodes::join_of(rows, &places, count);
-    Tally {
-        inside: 0 < count,
-        bits: joined,
+    let found = containing::find_containing_nodes(parents, above, &heads[..tips], block);
+    if found.count == 0 {
+        return None;
     }
+    let joined = nodes::join_of(rows, found.as_slice());
+    Some(joined)
 }
 
 // The first block from a block towards the base whose bits answer a question with yes. Nothing where none does, or where
@@ -78,11 +67,9 @@ pub fn find_ancestor<'a, Q: Asks>(
 {
     let mut at = block;
     let found = loop {
-        let tally = cumulative_vote(parents, used, above, rows, heads, tips, at);
-        if !tally.inside {
+        let Some(bits) = cumulative_vote(parents, used, above, rows, heads, tips, at) else {
             break None;
-        }
-        let bits = tally.bits;
+        };
         if question.passes(bits) {
             break Some(at);
         }
@@ -130,14 +117,12 @@ pub fn find_both<'a>(
     let mut possible = None;
     let mut here = block;
     loop {
-        let tally = cumulative_vote(parents, used, above, rows, heads, tips, here);
-        if !tally.inside {
+        let Some(bits) = cumulative_vote(parents, used, above, rows, heads, tips, here) else {
             return Both {
                 weighty: None,
                 possible,
             };
-        }
-        let bits = tally.bits;
+        };
         let weight = context::weighing::merged_weight(
             weights,
             bits,
@@ -174,10 +159,8 @@ fn following<'a>(
     ensures { result ≡ placed (followed parents.now used.now above.now order.now listed block) }
 {
     let over = climbs::nearest(parents, used, block);
-    let nodes = nodes::children(above, order, listed, over);
-    let places = nodes.places;
-    let count = nodes.count;
-    nodes::strictly_below(parents, &places, count, block)
+    let nodes = nodes::children(above, &order[..listed], over);
+    nodes::strictly_below(parents, nodes.as_slice(), block)
 }
 
 // From a block that answers a question with yes down the nodes that do, the first of each list, and then to the merge
@@ -197,18 +180,14 @@ pub fn descend<'a, Q: Asks>(
 {
     let follow = following(parents, used, above, order, listed, block);
     let mut last = block;
-    let mut places = follow.places;
-    let mut count = follow.count;
+    let mut nodes = follow;
     loop {
-        let child = vote_merge::first_passing(rows, question, &places, count);
+        let child = vote_merge::first_passing(rows, question, nodes.as_slice());
         if child == 0 {
-            let nodes = Places { places, count };
             return vote_merge::merge_point(parents, rows, question, nodes, last);
         }
-        let next = nodes::children(above, order, listed, child);
-        let lower = next.places;
-        places = lower;
-        count = next.count;
+        let next = nodes::children(above, &order[..listed], child);
+        nodes = next;
         last = child;
     }
 }
@@ -230,8 +209,8 @@ pub fn find_ghost<'a, Q: Asks>(
     requires { (base : ℕ) × Stands parents.now base (graph_at given used above rows order listed heads tips) block }
     ensures { result ≡ find_ghost (col parents.now) (view (graph_at before used above rows order listed heads tips)) (Q.asks question.now) block }
 {
-    let start = cumulative_vote(parents, used, above, rows, heads, tips, block);
-    let bits = start.bits;
+    let votes = cumulative_vote(parents, used, above, rows, heads, tips, block);
+    let bits = votes.unwrap_or([0u64; WORDS]);
     if !question.passes(bits) {
         return None;
     }

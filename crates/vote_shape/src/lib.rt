@@ -68,8 +68,7 @@ fn tidy<'a>(
 ) -> bool
     ensures { result ≡ tidy size (votes_at before counts first_block first_signature second_target second_number second_signature) }
 {
-    for j in 0..VOTES {
-        let n = counts[j];
+    for (j, &n) in counts.iter().enumerate() {
         if !is_counted(size, j, n) {
             return false;
         }
@@ -87,40 +86,19 @@ fn is_counted(size: usize, j: usize, n: u8) -> bool
     requires { j < VOTES }
     ensures { result ≡ counted size j n }
 {
-    if 2 < n {
-        return false;
-    }
-    if layouts::index_place(j) < size {
-        return true;
-    }
-    n == 0
+    n <= 2 && (layouts::index_place(j) < size || n == 0)
 }
 
 fn is_first_clear(n: u8, place: u8, signature: u64) -> bool
     ensures { result ≡ first_clear n place signature }
 {
-    if 0 < n {
-        return true;
-    }
-    if place != 0 {
-        return false;
-    }
-    signature == 0
+    0 < n || (place == 0 && signature == 0)
 }
 
 fn is_second_clear(n: u8, target: u32, number: u32, second: u64) -> bool
     ensures { result ≡ second_clear n target number second }
 {
-    if 1 < n {
-        return true;
-    }
-    if target != 0 {
-        return false;
-    }
-    if number != 0 {
-        return false;
-    }
-    second == 0
+    1 < n || (target == 0 && number == 0 && second == 0)
 }
 
 fn noded<'a>(
@@ -149,8 +127,8 @@ fn targets_used<'a>(
 ) -> bool
     ensures { result ≡ targets_used used.now counts.now first_block.now }
 {
-    for j in 0..VOTES {
-        if !is_used(counts[j], used[wide(first_block[j])]) {
+    for (n, target) in counts.iter().zip(first_block) {
+        if !is_used(*n, used[wide(*target)]) {
             return false;
         }
     }
@@ -160,10 +138,7 @@ fn targets_used<'a>(
 fn is_used(n: u8, node: bool) -> bool
     ensures { result ≡ leb n 0 || node }
 {
-    if n == 0 {
-        return true;
-    }
-    node
+    n == 0 || node
 }
 
 // The base and the targets of first votes.
@@ -172,12 +147,10 @@ fn noted<'a>(base: u8, counts: &'a [u8; VOTES], first_block: &'a [u8; VOTES]) ->
 {
     let mut marks = [false; BLOCKS];
     marks[wide(base)] = true;
-    for j in 0..VOTES {
-        if counts[j] == 0 {
-            continue;
+    for (n, target) in counts.iter().zip(first_block) {
+        if *n != 0 {
+            marks[wide(*target)] = true;
         }
-        let at = wide(first_block[j]);
-        marks[at] = true;
     }
     marks
 }
@@ -185,8 +158,8 @@ fn noted<'a>(base: u8, counts: &'a [u8; VOTES], first_block: &'a [u8; VOTES]) ->
 fn only_marked<'a>(used: &'a [bool; BLOCKS], marks: &'a [bool; BLOCKS]) -> bool
     ensures { result ≡ only_marked used.now marks.now }
 {
-    for x in 0..BLOCKS {
-        if !is_marked(used[x], marks[x]) {
+    for (node, mark) in used.iter().zip(marks) {
+        if !is_marked(*node, *mark) {
             return false;
         }
     }
@@ -196,10 +169,7 @@ fn only_marked<'a>(used: &'a [bool; BLOCKS], marks: &'a [bool; BLOCKS]) -> bool
 fn is_marked(node: bool, mark: bool) -> bool
     ensures { result ≡ not node || mark }
 {
-    if !node {
-        return true;
-    }
-    mark
+    !node || mark
 }
 
 fn written<'a>(counts: &'a [u8; VOTES], entries: &'a [u16; HISTORY], count: usize) -> bool

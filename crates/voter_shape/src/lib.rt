@@ -49,6 +49,8 @@ fn placed<'a>(ids: &'a [u32], weights: &'a [u64], count: usize) -> bool
     lists::blank(ids, count) && lists::blank(weights, count)
 }
 
+// Every place is looked at, which lets the compiler compare many at once. The places are counted by hand: an id is compared
+// with the one before.
 fn rising(ids: &[u32], count: usize) -> bool
     requires { count ≤ length ids.now }
     ensures { result ≡ rising ids.now count }
@@ -60,13 +62,14 @@ fn rising(ids: &[u32], count: usize) -> bool
     ok
 }
 
+// Every place is looked at here too.
 fn non_zero(weights: &[u64], count: usize) -> bool
     requires { count ≤ length weights.now }
     ensures { result ≡ non_zero weights.now count }
 {
     let mut ok = true;
-    for k in 0..count {
-        ok = (weights[k] != 0) & ok;
+    for weight in &weights[..count] {
+        ok = (*weight != 0) & ok;
     }
     ok
 }

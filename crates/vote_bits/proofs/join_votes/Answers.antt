@@ -1,4 +1,3 @@
-use Prim.Native.Nat.{◌-◌}
 use native.Mathlib.Omega.{arith}
 use Rattle.vote_bits.proofs.Joins.{cast_none, cast_skip, cast_put, small_none, small_skip, small_next, lift_start, lift_next, lift_end}
 use borrow.Author.Rules.{rules}
@@ -26,16 +25,16 @@ pub loop-j-preserved : goal.loop-j-preserved
 loop-j-preserved c = (omega (arith, c.loop-j-test.true), small_next c.args.counts.now c.args.first_block.now _ _ c.wide-at.ensures.0 c.wide-at.ensures.1 c.loop-j.invariant.1, cast_put c.args.counts.now c.args.first_block.now _ _ _ _ c.loop-j-test.true c.if-counts-j-eq0.false c.wide-at.ensures.0 c.wide-at.ensures.1 c.set_bit-more.ensures c.loop-j.invariant.2)
 
 pub loop-low-init : goal.loop-low-init
-loop-low-init c = (search rules, λ falls. lift_start c.args.parents.now c.args.counts.now c.args.first_block.now falls _ _ c.loop-j-test.false c.loop-j.invariant.1 c.loop-j.invariant.2)
+loop-low-init c = (omega arith, search rules, λ falls. lift_start c.args.parents.now c.args.counts.now c.args.first_block.now falls _ _ c.loop-j-test.false c.loop-j.invariant.1 c.loop-j.invariant.2)
 
 pub bounds-parents-low : goal.bounds-parents-low
-bounds-parents-low c = c.loop-low.invariant.0
+bounds-parents-low c = omega (arith, c.loop-low.invariant.0, c.loop-low.invariant.1)
 
 pub offset_bounds-rows-low : goal.offset_bounds-rows-low
-offset_bounds-rows-low c = omega (arith, c.loop-low.invariant.0)
+offset_bounds-rows-low c = omega (arith, c.loop-low.invariant.0, c.loop-low.invariant.1)
 
 pub bounds-rows-low : goal.bounds-rows-low
-bounds-rows-low c = c.loop-low.invariant.0
+bounds-rows-low c = omega (arith, c.loop-low.invariant.0, c.loop-low.invariant.1)
 
 pub offset_bounds-rows-over : goal.offset_bounds-rows-over
 offset_bounds-rows-over c = omega (arith, c.wide-over.ensures.1)
@@ -49,14 +48,8 @@ offset_bounds-rows-over-in-loop-low c = omega (arith, c.wide-over.ensures.1)
 pub bounds-rows-over-in-loop-low : goal.bounds-rows-over-in-loop-low
 bounds-rows-over-in-loop-low c = c.wide-over.ensures.1
 
-pub overflow_sub-low : goal.overflow_sub-low
-overflow_sub-low c = omega (arith, c.loop-low-test.true)
-
-pub loop-low-smaller : goal.loop-low-smaller
-loop-low-smaller c = omega (arith, c.loop-low-test.true)
-
 pub loop-low-preserved : goal.loop-low-preserved
-loop-low-preserved c = (omega (arith, c.loop-low.invariant.0), λ falls. lift_next c.args.parents.now c.args.counts.now c.args.first_block.now falls _ _ _ _ c.loop-low-test.true c.loop-low.invariant.0 c.wide-over.ensures.0 c.wide-over.ensures.1 c.merge-more.ensures (c.loop-low.invariant.1 falls))
+loop-low-preserved c = (omega (arith, c.loop-low-test.true), omega (arith, c.loop-low.invariant.1), λ falls. lift_next c.args.parents.now c.args.counts.now c.args.first_block.now falls _ _ _ _ (omega (arith, c.loop-low-test.true)) (omega (arith, c.loop-low.invariant.0, c.loop-low.invariant.1)) c.wide-over.ensures.0 c.wide-over.ensures.1 c.merge-more.ensures (c.loop-low.invariant.2 falls))
 
 pub returns : goal.returns
-returns c = lift_end c.args.parents.now c.args.counts.now c.args.first_block.now c.requires.0 _ _ c.loop-low-test.false (c.loop-low.invariant.1 c.requires.0)
+returns c = lift_end c.args.parents.now c.args.counts.now c.args.first_block.now c.requires.0 _ _ (omega (arith, c.loop-low-test.false)) (c.loop-low.invariant.2 c.requires.0)

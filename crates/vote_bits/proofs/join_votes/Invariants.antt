@@ -1,4 +1,4 @@
-use Prim.Native.Nat.{◌≤◌, ◌<◌, ◌-◌}
+use Prim.Native.Nat.{◌≤◌, ◌-◌}
 use Rattle.sizes.specs.Sizes.{VOTES, BLOCKS}
 use Rattle.nodes.specs.Nodes.{Falls}
 use Rattle.vote_bits.specs.Told.{Held}
@@ -12,7 +12,4 @@ abbrev pub decreases-loop-j : goal.decreases-loop-j
 decreases-loop-j l = VOTES - l.j
 
 abbrev pub invariant-loop-low : goal.invariant-loop-low
-invariant-loop-low l = (l.low < BLOCKS) × ((falls : Falls l.parents) → Held l.rows (lifted l.parents l.counts l.first_block falls l.low))
-
-abbrev pub decreases-loop-low : goal.decreases-loop-low
-decreases-loop-low l = l.low
+invariant-loop-low l = (1 ≤ l.low) × (l.low ≤ BLOCKS) × ((falls : Falls l.parents) → Held l.rows (lifted l.parents l.counts l.first_block falls (l.low - 1)))

@@ -1,5 +1,5 @@
 use mathlib.Core.Path.{◌≡◌}
-use Prim.Native.Nat.{◌<◌, ◌-◌}
+use Prim.Native.Nat.{◌<◌}
 use Rattle.sizes.specs.Sizes.{BLOCKS}
 use Rattle.vote_insert.specs.Insert.{marked}
 use Rattle.vote_insert.proofs.mark.Given as goal

@@ -1,35 +1,22 @@
 use mathlib.Core.Path.{refl, sym, ap, ◌∙◌}
 use mathlib.Core.List.{List}
-use Prim.Native.Nat.{ℕ, ◌-◌}
-use native.Mathlib.Omega.{arith}
+use Prim.Native.Nat.{ℕ}
 use lib.ListN.{get_or, set}
 use Rattle.loops.specs.Listing.{front, fold}
+use Rattle.nodes.proofs.Lists.{front_end}
 use Rattle.vote_insert.specs.Insert.{set_all}
 use Rattle.vote_insert.proofs.Sets.{set_all_next}
-use borrow.Author.Rules.{rules}
 use Rattle.vote_insert.proofs.set_all.Goals as goal
 
-pub loop-k-init : goal.loop-k-init
-loop-k-init c = (search rules, unfold set_all front fold in refl)
+pub loop-member-init : goal.loop-member-init
+loop-member-init c = unfold set_all front fold in refl
 
-pub bounds-members-k : goal.bounds-members-k
-bounds-members-k c = omega (arith, c.loop-k-test.true, c.requires)
-
-pub bounds-above-at : goal.bounds-above-at
-bounds-above-at c = c.wide-at.ensures.1
-
-pub overflow_step-k : goal.overflow_step-k
-overflow_step-k c = omega (arith, c.loop-k-test.true, c.requires)
-
-pub loop-k-smaller : goal.loop-k-smaller
-loop-k-smaller c = omega (arith, c.loop-k-test.true)
-
-pub loop-k-preserved : goal.loop-k-preserved
-loop-k-preserved c = (
-  omega (arith, c.loop-k-test.true),
-  ap (λ (x : ℕ). set c.loop-k.above x c.args.node) c.wide-at.ensures.0 ∙ ap (λ (v : List ℕ). set v (get_or c.args.members.now c.loop-k.k 0) c.args.node) c.loop-k.invariant.1 ∙ sym (set_all_next _ _ _ _),
-)
+pub loop-member-preserved : goal.loop-member-preserved
+loop-member-preserved c =
+    ap (λ (x : ℕ). set c.loop-member.above x c.args.node) c.wide.ensures.0
+    ∙ ap (λ (v : List ℕ). set v (get_or c.args.members.now c.loop-member.member-index 0) c.args.node) c.loop-member.invariant ∙ sym (set_all_next _ _ _ _)
 
 pub returns : goal.returns
 returns c =
-    c.loop-k.invariant.1 ∙ ap (λ (n : ℕ). set_all c.args.above.now (front n c.args.members.now) c.args.node) (omega (arith, c.loop-k.invariant.0, c.loop-k-test.false))
+    c.loop-member.invariant
+    ∙ ap (λ (ms : List ℕ). set_all c.args.above.now ms c.args.node) (front_end _ _ c.loop-member.auto.member-index-end c.loop-member-test.false)

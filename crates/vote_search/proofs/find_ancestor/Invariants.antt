@@ -6,11 +6,11 @@ use Rattle.nodes.specs.Nodes.{col}
 use Rattle.vote_search.specs.Searches.{unlisted}
 use Rattle.vote_search.proofs.find_ancestor.Given as goal
 
-abbrev pub invariant-loop-tally : goal.invariant-loop-tally
-invariant-loop-tally g l =
+abbrev pub invariant-loop-bits : goal.invariant-loop-bits
+invariant-loop-bits g l =
     T (below (col l.parents) l.base l.at)
     × (find_ancestor (col l.parents) (unlisted l.used l.rows l.heads l.tips) l.base (g.Q.Asks.asks l.question) l.block
     ≡ find_ancestor (col l.parents) (unlisted l.used l.rows l.heads l.tips) l.base (g.Q.Asks.asks l.question) l.at)
 
-abbrev pub decreases-loop-tally : goal.decreases-loop-tally
-decreases-loop-tally g l = l.at
+abbrev pub decreases-loop-bits : goal.decreases-loop-bits
+decreases-loop-bits g l = l.at

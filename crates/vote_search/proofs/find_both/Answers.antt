@@ -1,34 +1,33 @@
 use native.Mathlib.Omega.{arith}
-use borrow.Author.Tests.{not-true, not-false}
 use Rattle.grandpa.proofs.Trees.{below_le}
 use Rattle.vote_search.proofs.Together.{on_start, on_outside, on_weighty, on_base, on_up}
 use Rattle.vote_search.proofs.find_both.Goals as goal
 
-pub loop-equivocations-init : goal.loop-equivocations-init
-loop-equivocations-init c = on_start _ _ _ _ _ _ _ c.requires.2.in_base
+pub loop-bits-init : goal.loop-bits-init
+loop-bits-init c = on_start _ _ _ _ _ _ _ c.requires.2.in_base
 
-pub cumulative_vote-tally-requires : goal.cumulative_vote-tally-requires
-cumulative_vote-tally-requires c = let s = c.requires.2.sound in (s.parents_fall, s.above_falls, s.tips_fit)
+pub cumulative_vote-requires : goal.cumulative_vote-requires
+cumulative_vote-requires c = let s = c.requires.2.sound in (s.parents_fall, s.above_falls, s.tips_fit)
 
-pub returns-then-not-tally : goal.returns-then-not-tally
-returns-then-not-tally c = on_outside _ _ _ _ _ c.requires.2.sound _ _ _ _ _ _ c.loop-equivocations.invariant _ c.cumulative_vote-tally.ensures (not-true _ c.if-not-tally.true)
+pub returns-in_default : goal.returns-in_default
+returns-in_default c = on_outside _ _ _ _ _ c.requires.2.sound _ _ _ _ _ _ c.loop-bits.invariant _ c.cumulative_vote.ensures c.in_default.is
 
 pub returns-then-still-weight : goal.returns-then-still-weight
 returns-then-still-weight c =
-    on_weighty _ _ _ _ _ c.requires.2.sound _ _ _ _ _ _ c.loop-equivocations.invariant _ c.cumulative_vote-tally.ensures (not-false _ c.if-not-tally.false) _ c.merged_weight-weight.ensures _ c.or_this-possible.ensures c.if-still-weight.true
+    on_weighty _ _ _ _ _ c.requires.2.sound _ _ _ _ _ _ c.loop-bits.invariant _ c.cumulative_vote.ensures _ c.in-Some.is _ c.merged_weight-weight.ensures _ c.or_this-possible.ensures c.if-still-weight.true
 
 pub returns-then-here-base : goal.returns-then-here-base
 returns-then-here-base c =
-    on_base _ _ _ _ _ c.requires.2.sound _ _ _ _ _ _ c.loop-equivocations.invariant _ c.cumulative_vote-tally.ensures (not-false _ c.if-not-tally.false) _ c.merged_weight-weight.ensures _ c.or_this-possible.ensures c.if-still-weight.false c.if-here-base.true
+    on_base _ _ _ _ _ c.requires.2.sound _ _ _ _ _ _ c.loop-bits.invariant _ c.cumulative_vote.ensures _ c.in-Some.is _ c.merged_weight-weight.ensures _ c.or_this-possible.ensures c.if-still-weight.false c.if-here-base.true
 
 pub bounds-parents-wide : goal.bounds-parents-wide
 bounds-parents-wide c = c.wide.ensures.1
 
-pub loop-equivocations-smaller : goal.loop-equivocations-smaller
-loop-equivocations-smaller c =
+pub loop-bits-smaller : goal.loop-bits-smaller
+loop-bits-smaller c =
     let s = c.requires.2.sound in
-    omega (arith, s.parents_fall c.wide.result, c.wide.ensures.0, below_le _ s.parents_fall _ _ c.loop-equivocations.invariant.inside, c.if-here-base.false)
+    omega (arith, s.parents_fall c.wide.result, c.wide.ensures.0, below_le _ s.parents_fall _ _ c.loop-bits.invariant.inside, c.if-here-base.false)
 
-pub loop-equivocations-preserved : goal.loop-equivocations-preserved
-loop-equivocations-preserved c =
-    on_up _ _ _ _ _ c.requires.2.sound _ _ _ _ _ _ c.loop-equivocations.invariant _ c.cumulative_vote-tally.ensures (not-false _ c.if-not-tally.false) _ c.merged_weight-weight.ensures _ c.or_this-possible.ensures c.if-still-weight.false c.if-here-base.false _ c.wide.ensures.0
+pub loop-bits-preserved : goal.loop-bits-preserved
+loop-bits-preserved c =
+    on_up _ _ _ _ _ c.requires.2.sound _ _ _ _ _ _ c.loop-bits.invariant _ c.cumulative_vote.ensures _ c.in-Some.is _ c.merged_weight-weight.ensures _ c.or_this-possible.ensures c.if-still-weight.false c.if-here-base.false _ c.wide.ensures.0

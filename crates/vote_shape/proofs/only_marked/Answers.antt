@@ -1,20 +1,30 @@
-use mathlib.Core.Path.{sym, ◌∙◌}
-use native.Mathlib.Nat.{le_antisymm}
+use mathlib.Core.Bool.{false}
+use mathlib.Core.Path.{◌≡◌, sym, ◌∙◌}
+use native.Mathlib.Omega.{arith}
+use lib.ListN.{length, length-append}
+use Rattle.sizes.specs.Sizes.{BLOCKS}
+use Rattle.std.proofs.lemmas.Slice.Zip.{zip_turn, zip_end}
 use Rattle.loops.proofs.Alls.{all_none, all_more, all_false}
 use Rattle.vote_shape.specs.Voted.{only_marked}
-use borrow.Author.Rules.{rules}
 use Rattle.vote_shape.proofs.only_marked.Goals as goal
 
-pub loop-x-init : goal.loop-x-init
-loop-x-init c = (search rules, all_none _)
+pub loop-node-init : goal.loop-node-init
+loop-node-init c = all_none _
 
 pub returns-then-not-is_marked : goal.returns-then-not-is_marked
 unfolding only_marked
-returns-then-not-is_marked c = sym (all_false _ _ _ c.loop-x-test.true (sym c.is_marked.ensures ∙ c.if-not-is_marked.true))
+returns-then-not-is_marked c =
+    let z = zip_turn c.args.used.now c.args.marks.now c.loop-node.yielded c.into_iter-node-iterator.result c.loop-node.node-iterator c.next.new.self _ (cc) (cc) c.loop-node.yielded_by _ c.in-Some.is c.next.ensures.steps in
+    sym (all_false _ _ _ (omega (arith, z.0)) (rw (z.2 false, z.3 false) at (sym c.is_marked.ensures ∙ c.if-not-is_marked.true)))
 
-pub loop-x-preserved : goal.loop-x-preserved
-loop-x-preserved c = (search rules, all_more _ _ c.loop-x.invariant.1 (sym c.is_marked.ensures ∙ c.if-not-is_marked.false))
+pub loop-node-preserved : goal.loop-node-preserved
+loop-node-preserved c =
+    let z = zip_turn c.args.used.now c.args.marks.now c.loop-node.yielded c.into_iter-node-iterator.result c.loop-node.node-iterator c.next.new.self _ (cc) (cc) c.loop-node.yielded_by _ c.in-Some.is c.next.ensures.steps in
+    rw length-append (all_more _ _ c.loop-node.invariant (rw (z.2 false, z.3 false) at (sym c.is_marked.ensures ∙ c.if-not-is_marked.false)))
 
 pub returns : goal.returns
 unfolding only_marked
-returns c = let e = le_antisymm c.loop-x.invariant.0 c.loop-x-test.false in sym (rw e at c.loop-x.invariant.1)
+returns c =
+    let z = zip_end c.args.used.now c.args.marks.now c.loop-node.yielded c.into_iter-node-iterator.result c.loop-node.node-iterator c.next.new.self _ (cc) (cc) c.loop-node.yielded_by c.in-None.is c.next.ensures.steps in
+    let e : length c.loop-node.yielded ≡ BLOCKS = omega (arith, z) in
+    sym (rw e at c.loop-node.invariant)
