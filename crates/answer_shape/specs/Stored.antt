@@ -3,7 +3,6 @@
 -- tested against the votes.
 use Rattle.std.specs.Prelude.{Bool, true, ◌&&◌, List, ℕ, eqb, ltb, Option, Some, None}
 use Rattle.grandpa.specs.Tree.{below}
-use Rattle.context.specs.declared.Phase.{Phase}
 use Rattle.context.specs.declared.Phase.TheVariants.{Prevote, Precommit}
 use Rattle.context.specs.Votes.{voted, weight_of}
 use Rattle.nodes.specs.Nodes.{col}

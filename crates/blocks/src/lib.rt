@@ -23,7 +23,7 @@ pub struct BlockTable {
     pub count: usize,
 }
 
-// The answer and the table beside it: an enum holds no array.
+// The answer, and the table after the call.
 #[derive(Clone, Copy)]
 pub struct Added {
     pub answer: Result<u8, Refusal>,

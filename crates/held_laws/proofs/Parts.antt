@@ -3,7 +3,7 @@ use mathlib.Core.Path.{◌≡◌, refl, ap}
 use mathlib.Core.Logic.{◌≢◌}
 use Prim.Native.Nat.{ℕ, ◌+◌, ◌≤◌, ◌<◌}
 use native.Mathlib.Omega.{arith}
-use Rattle.grandpa.specs.Vote.{silent, total, heard, unheard}
+use Rattle.grandpa.specs.Vote.{silent, unheard}
 use Rattle.grandpa.proofs.Votes.{heard_unheard}
 use Rattle.voter_laws.proofs.Goods.{total_used}
 use Rattle.block_shape.specs.Shape.{Shaped}

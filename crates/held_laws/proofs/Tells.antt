@@ -3,7 +3,6 @@ use mathlib.Core.Path.{◌≡◌, refl, sym, subst}
 use Prim.Native.Nat.{ℕ, pred, ◌≤◌, ◌<◌}
 use native.Mathlib.Omega.{arith}
 use lib.Dec.{T}
-use Rattle.grandpa.specs.Vote.{total}
 use Rattle.grandpa.specs.Time.{Down}
 use Rattle.grandpa.proofs.Trees.{below_refl, below_trans, below_same}
 use Rattle.voter_set.specs.declared.VoterSet.{VoterSet}
@@ -17,7 +16,7 @@ use Rattle.tracker.specs.declared.Pair.{Pair}
 use Rattle.judging.specs.declared.Verdict.{Verdict}
 use Rattle.judging.specs.declared.Verdict.TheVariants.{Nothing, First, Second}
 use Rattle.answers.specs.Update.{phase_ghost, told_after}
-use Rattle.answer_laws.specs.Faithful.{Setting, voters, scene_of, Faithful, AllWithin}
+use Rattle.answer_laws.specs.Faithful.{Setting, scene_of, Faithful, AllWithin}
 use Rattle.answer_laws.specs.Tells.{Tells}
 use Rattle.answer_laws.proofs.Searched.{tabled_in}
 use Rattle.answer_laws.proofs.Stays.{opened_tells, precommit_beside, blocks_tell}

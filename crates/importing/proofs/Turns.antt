@@ -1,16 +1,14 @@
 -- The ways through `import`: what each verdict lets the code do, and that what is done is the step.
 use mathlib.Core.List.{List}
-use mathlib.Core.Path.{◌≡◌, refl, sym, ap, ◌∙◌}
+use mathlib.Core.Path.{◌≡◌, refl}
 use mathlib.Core.Logic.{◌≢◌}
 use Prim.Native.Nat.{ℕ, ◌<◌}
 use native.Mathlib.Omega.{arith}
 use lib.Dec.{T}
-use lib.ListN.{set}
 use Rattle.sizes.specs.Sizes.{VOTERS, HISTORY}
 use Rattle.layouts.specs.Layout.{entry}
 use Rattle.columns.specs.Find.{find}
 use Rattle.columns.proofs.Finds.{find_at}
-use Rattle.grandpa.specs.Tree.{below}
 use Rattle.voter_info.specs.declared.VoterInfo.{VoterInfo}
 use Rattle.voter_info.specs.Info.{look_up}
 use Rattle.blocks.specs.Add.{place_of}
@@ -25,9 +23,8 @@ use Rattle.vote_insert.proofs.Keeps.{insertable, sound_inserted}
 use Rattle.tracker.specs.declared.Pair.{Pair}
 use Rattle.tracker.specs.Recorded.{first_pair}
 use Rattle.tracker.specs.Votes.{with_first, with_second}
-use Rattle.judging.specs.declared.ImportResult.{ImportResult}
 use Rattle.judging.specs.declared.ImportResult.TheVariants.{Counted, Equivocated}
-use Rattle.judging.specs.declared.Verdict.TheVariants.{Nothing, First, Second}
+use Rattle.judging.specs.declared.Verdict.TheVariants.{First, Second}
 use Rattle.judging.proofs.Voters.{position_inside}
 use Rattle.judging.proofs.Judged.{Aimed, judged_first, judged_second}
 use Rattle.answers.specs.declared.Answers.{Answers}

@@ -1,7 +1,7 @@
 -- How a vote is taken. Document 01, "How a vote is taken": 2, a first vote is recorded, put into the graph, appended to history; 4, a
 -- second pair is an equivocation, reported with both pairs in arrival order, the signer's weight heard once, its target in
 -- history only. Only 2 and 4 run the update.
-use Rattle.std.specs.Prelude.{Bool, List, ◌≡◌, ◌≢◌, ℕ, ◌+◌, ◌≤◌, ◌<◌, T, set, length, replicate, Result, Ok}
+use Rattle.std.specs.Prelude.{List, ◌≡◌, ◌≢◌, ℕ, ◌+◌, ◌≤◌, ◌<◌, set, length, replicate, Result, Ok}
 use Rattle.sizes.specs.Sizes.{WORDS, VOTERS, VOTES, HISTORY}
 use Rattle.layouts.specs.Layout.{entry}
 use Rattle.weights.specs.Weights.{plus}

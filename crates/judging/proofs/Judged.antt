@@ -19,9 +19,8 @@ use Rattle.tracker.specs.declared.VoteMultiplicity.{VoteMultiplicity}
 use Rattle.tracker.specs.declared.VoteMultiplicity.TheVariants.{Silent, Single, Equivocated}
 use Rattle.tracker.specs.declared.AddVoteResult.TheVariants as added
 use Rattle.tracker.specs.Recorded.{same, add_vote, first_pair, second_pair, recorded}
-use Rattle.judging.specs.declared.ImportResult.TheVariants as answer
 use Rattle.judging.specs.declared.Verdict.{Verdict}
-use Rattle.judging.specs.declared.Verdict.TheVariants.{Nothing, First, Second}
+use Rattle.judging.specs.declared.Verdict.TheVariants.{First, Second}
 use Rattle.judging.specs.Judge.{refused, judge_first, by_rule, on_voter, judge}
 use Rattle.std.specs.Prelude.{Option, Some, None}
 use Rattle.refusals.specs.declared.Refusal.TheVariants.{OffTheBase, UnknownTarget, WrongNumber}

@@ -1,8 +1,7 @@
 -- Document 01, case J: voters 1 to 4 at places 0 to 3; blocks 10, 11, 12, 13 at places 0 to 3, 11 under 10, 12 and 13 under 11;
 -- prevotes 1, 2, 4 for 12 and 3 for 13; precommits 1 and 2 for 12, 3 for 11; signatures 0; 11 finalized. And J with voter 3's
 -- second precommit for 13, which finalizes 12.
-use mathlib.Core.Bool.{true, false}
-use mathlib.Core.List.{List, [], ◌∷◌, ◌++◌}
+use mathlib.Core.List.{List, [], ◌∷◌}
 use mathlib.Core.Path.{◌≡◌, refl}
 use Prim.Native.Nat.{ℕ, suc}
 use lib.ListN.{replicate, set}
@@ -19,7 +18,7 @@ use Rattle.tracker.specs.Recorded.{recorded}
 use Rattle.records.specs.Bytes.{vote_bytes}
 use Rattle.listing.specs.declared.Wanted.TheVariants.{Of, Finalizing}
 use Rattle.listing.specs.Entries.{by_voter, wants}
-use Rattle.listing.specs.Written.{pair_of, record_of, in_a_row, Lent, written}
+use Rattle.listing.specs.Written.{pair_of, record_of, in_a_row, written}
 use Rattle.std.specs.Prelude.{Ok, Err}
 use Rattle.refusals.specs.declared.Refusal.TheVariants.{ShortBuffer}
 

@@ -1,10 +1,9 @@
 -- Records one after the other, and the loop that writes each into the part of a buffer that remains.
 use mathlib.Core.List.{List, [], ◌∷◌, ◌++◌, append_assoc, append-nil}
 use mathlib.Core.Path.{◌≡◌, refl, sym, ap, ◌∙◌}
-use Prim.Native.Nat.{ℕ, zero, suc, ◌+◌, ◌-◌, ◌*◌, ◌≤◌, ◌<◌}
+use Prim.Native.Nat.{ℕ, ◌+◌, ◌-◌, ◌*◌, ◌≤◌, ◌<◌}
 use native.Mathlib.Numerals.{add-one}
 use native.Mathlib.Omega.{arith}
-use lib.Dec.{ltb}
 use lib.ListN.{get_or, length, take, drop, length-append, length-drop, drop_of_length-le}
 use lib.Seq.{take_all, take_at, drop-drop, drop-append-add}
 use borrow.Author.Tests.{lt-ltb, le-ltb}
@@ -18,7 +17,7 @@ use Rattle.tracker.specs.declared.Votes.{Votes}
 use Rattle.tracker.specs.declared.Pair.{Pair}
 use Rattle.records.specs.Bytes.{vote_bytes}
 use Rattle.records.proofs.Bytes.{length_vote}
-use Rattle.listing.specs.Written.{phase_of, voter_of, pair_of, record_of, in_a_row, Lent, written}
+use Rattle.listing.specs.Written.{phase_of, voter_of, pair_of, record_of, in_a_row, written}
 use Rattle.std.specs.Prelude.{Ok, Err}
 use Rattle.refusals.specs.declared.Refusal.TheVariants.{ShortBuffer}
 

@@ -11,13 +11,13 @@ use lib.Dec.{T, ltb, eqb, ltb→lt}
 use lib.ListN.{length, set, replicate, length-append}
 use borrow.Author.Tests.{lt-ltb, le-ltb, eq-eqb, ne_eqb}
 use Rattle.sizes.specs.Sizes.{VOTERS, VOTES, HISTORY}
-use Rattle.layouts.specs.Layout.{entry, entry_index, entry_pair, index_place}
+use Rattle.layouts.specs.Layout.{entry, entry_index, entry_pair}
 use Rattle.layouts.proofs.Indices.{index_entry, pair_entry, entry_parts, entry_pair_lt, few_entry}
 use Rattle.loops.specs.Listing.{times, keep}
 use Rattle.loops.proofs.Tests.{and_false, false_not, right_of, dec_T, le_or_lt}
 use Rattle.loops.proofs.Listings.{times_append, times_none, times_keep, keep_append}
 use Rattle.context.specs.declared.Phase.{Phase}
-use Rattle.context.specs.Votes.{bit, phase_at}
+use Rattle.context.specs.Votes.{bit}
 use Rattle.context.proofs.Places.{same_phase, bit_parts, bit_same, bit_few}
 use Rattle.nodes.specs.Nodes.{col}
 use Rattle.nodes.proofs.Lists.{length_keep}

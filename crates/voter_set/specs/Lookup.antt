@@ -1,4 +1,4 @@
--- Asking a voter set. Document 01, "Porting order" 2: `get`, `nth`, `nth_mod`; "Forms that must change": own answer enums.
+-- Asking a voter set. Document 01, "Porting order" 2: `get`, `nth`, `nth_mod`.
 use Rattle.std.specs.Prelude.{Bool, cond, ℕ, ◌%◌, ltb, get_or, Option, Some, None}
 use Rattle.columns.specs.Find.{contains}
 use Rattle.voter_info.specs.Info.{info, look_up}

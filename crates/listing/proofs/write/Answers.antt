@@ -1,6 +1,6 @@
 use mathlib.Core.List.{List, ◌++◌}
 use mathlib.Core.Path.{ap, ◌∙◌}
-use Prim.Native.Nat.{ℕ, ◌-◌, ◌+◌}
+use Prim.Native.Nat.{ℕ, ◌-◌}
 use native.Mathlib.Omega.{arith}
 use lib.ListN.{length, take, drop, length-take, length-drop}
 use Rattle.listing.proofs.Rows.{filled_none, filled_next, filled_end, filled_not, record_size, record_is}
