@@ -1,5 +1,5 @@
 -- A piece behind the bytes that were left: it is run with them, by way of the joint.
-use mathlib.Core.Bool.{Bool, true, false, not, ◌&&◌}
+use mathlib.Core.Bool.{Bool, true, false, not}
 use mathlib.Core.List.{List, [], ◌++◌, append-nil, append_assoc}
 use mathlib.Core.Logic.{◌⊎◌, inl, inr}
 use mathlib.Core.Path.{◌≡◌, refl, sym, ap, subst, ◌∙◌}
@@ -8,7 +8,7 @@ use native.Mathlib.Omega.{arith}
 use borrow.Author.Tests.{ltb-false}
 use lib.Dec.{T, ltb}
 use lib.ListN.{length, take, drop, length-append, length-drop, length-take, drop_of_length-le, replicate}
-use lib.Seq.{take_at, take_all, take-length, length-take-le, drop_at, drop-drop}
+use lib.Seq.{take_at, take_all, length-take-le, drop_at, drop-drop}
 use borrow.Rule.Slice.PartMut.{mid_of, post_of, put_mid}
 use Rattle.loops.proofs.Tests.{T_true, left_of, right_of}
 use Rattle.weights.specs.Weights.{most, plus}
@@ -21,7 +21,7 @@ use Rattle.marks.specs.Marks.{read}
 use Rattle.runs.specs.Run.{Run, ended, ran, counted}
 use Rattle.runs.proofs.Turns.{part_drop}
 use Rattle.runs.proofs.Rests.{rest_short}
-use Rattle.runs.proofs.Joints.{joint, joint_past, joint_goes_on, joint_refused, joint_left, joint_none}
+use Rattle.runs.proofs.Joints.{joint, joint_goes_on, joint_refused, joint_left, joint_none}
 use Rattle.turns.specs.Turns as turns
 use Rattle.turns.specs.Turns.{pairing, no_pairs, took}
 use Rattle.turns.specs.Stands.{Stands}

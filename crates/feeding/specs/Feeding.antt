@@ -1,7 +1,7 @@
 -- A replay that takes a journal's bytes piece by piece. Document 01, "The journal": the replay stops at the first refusal, K counts records
 -- from 1, the tail is what is left after the last whole record. "Refusal numbers": 9 first where a state is taken; a refusal hands it back
 -- equal.
-use Rattle.std.specs.Prelude.{Bool, true, false, cond, not, ◌&&◌, List, [], ◌++◌, ℕ, ◌+◌, ltb, length, take, drop, replicate, Result, Ok, Err, ⊤}
+use Rattle.std.specs.Prelude.{Bool, true, false, cond, not, ◌&&◌, List, [], ◌++◌, ℕ, ltb, length, take, drop, replicate, Result, Ok, Err, ⊤}
 use Rattle.weights.specs.Weights.{plus}
 use Rattle.marks.specs.declared.Record.{Record}
 use Rattle.marks.specs.declared.Record.TheVariants as is

@@ -1,7 +1,7 @@
 -- What code has done when it returns: one law for each way out of a turn.
 use mathlib.Core.List.{List}
 use mathlib.Core.Path.{◌≡◌, refl, sym, ap, subst, ◌∙◌}
-use Prim.Native.Nat.{ℕ, ◌+◌, ◌-◌, ◌≤◌, ◌<◌}
+use Prim.Native.Nat.{ℕ, ◌+◌, ◌-◌, ◌≤◌}
 use native.Mathlib.Omega.{arith}
 use lib.ListN.{length, take, drop, length-drop}
 use lib.Seq.{drop-drop}
@@ -12,12 +12,10 @@ use Rattle.voter_set.specs.Voters.{new}
 use Rattle.voter_laws.proofs.Made.{made_fit, made_total, new_good}
 use Rattle.blocks.specs.declared.BlockTable.{BlockTable}
 use Rattle.blocks.specs.Add.{place_of}
-use Rattle.block_shape.specs.Shape.{Shaped}
 use Rattle.block_table.specs.Add as table
 use Rattle.block_laws.proofs.Adds.{opened_shaped, found_stands}
 use Rattle.graph_rows.specs.declared.Row.{Row}
 use Rattle.graph_rows.specs.Rows.{words_of, rows_of}
-use Rattle.vote_graph.specs.Shape.{columns}
 use Rattle.importing.specs.Import.{Frame}
 use Rattle.held_laws.specs.Kept.{Kept}
 use Rattle.held_laws.proofs.Opens.{opened_kept}

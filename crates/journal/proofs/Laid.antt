@@ -1,8 +1,7 @@
 -- A state by value: it tells what was laid into it, and the test passes exactly where it stands.
-use mathlib.Core.Bool.{Bool, true, ◌&&◌}
-use mathlib.Core.List.{List}
+use mathlib.Core.Bool.{◌&&◌}
 use mathlib.Core.Path.{◌≡◌, refl, sym, ap, subst}
-use Prim.Native.Nat.{ℕ, ◌≤◌}
+use Prim.Native.Nat.{◌≤◌}
 use lib.Dec.{T, leb→le, le→leb}
 use Rattle.loops.proofs.Tests.{T_true, true_T, both, left_of, right_of}
 use Rattle.weights.specs.Weights.{most}
@@ -13,10 +12,9 @@ use Rattle.block_shape.proofs.Shapes.{tabled_shaped, shaped_tabled}
 use Rattle.vote_graph.proofs.Shapes.{columns_of}
 use Rattle.importing.specs.Import.{Frame, with_graph}
 use Rattle.held_laws.specs.Kept.{Kept}
-use Rattle.round.specs.declared.Round.{Round}
 use Rattle.round.specs.Shape.{frame, held, shaped}
 use Rattle.round.specs.Calls.{opened}
-use Rattle.round_laws.specs.Fits.{Fits, Marked}
+use Rattle.round_laws.specs.Fits.{Marked}
 use Rattle.round_laws.proofs.Shaped.{shaped_kept, kept_shaped}
 use Rattle.voting.specs.Voting.{Voting}
 use Rattle.turns.specs.Turns as turns

@@ -2,7 +2,7 @@
 use mathlib.Core.Bool.{Bool, true, false, cond}
 use mathlib.Core.List.{List}
 use mathlib.Core.Path.{◌≡◌, refl, sym, ap, subst, ◌∙◌}
-use Prim.Native.Nat.{ℕ, ◌+◌, ◌≤◌}
+use Prim.Native.Nat.{ℕ, ◌≤◌}
 use native.Mathlib.Omega.{arith}
 use lib.Dec.{leb}
 use Rattle.sizes.specs.Sizes.{PAIRS}
@@ -20,7 +20,7 @@ use Rattle.marks.specs.declared.Mark.TheVariants.{Vt, Rt, Bk, Op, Pv, Pc}
 use Rattle.marks.specs.declared.Record.TheVariants as is
 use Rattle.marks.specs.declared.End.{End}
 use Rattle.marks.specs.declared.End.TheVariants.{Cut, Refused, Left}
-use Rattle.marks.specs.Marks.{read, fields, word, long}
+use Rattle.marks.specs.Marks.{read, word, long}
 use Rattle.runs.specs.Run.{Next, goes, stops, leaves, on_next, Run, ended, ran, counted}
 use Rattle.runs.specs.Follow.{carried}
 use Rattle.runs.proofs.Simulations.{carried_cut, carried_refused, carried_left, run_simulates}

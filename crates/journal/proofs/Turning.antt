@@ -1,27 +1,25 @@
 -- The records that end a turn: the Rt and the Op, and what follows them.
 use mathlib.Core.List.{List}
-use mathlib.Core.Path.{◌≡◌, refl, sym, ap, ◌∙◌}
-use Prim.Native.Nat.{ℕ, ◌+◌}
-use lib.ListN.{take, drop}
+use mathlib.Core.Path.{◌≡◌, ap}
+use Prim.Native.Nat.{ℕ}
+use lib.ListN.{take}
 use Rattle.voter_set.specs.declared.VoterSet.{VoterSet}
 use Rattle.voter_set.specs.Voters.{new}
 use Rattle.blocks.specs.declared.BlockTable.{BlockTable}
 use Rattle.blocks.specs.Add.{place_of, on_place}
 use Rattle.block_table.specs.Add.{opened}
-use Rattle.marks.specs.declared.Mark.{Mark}
 use Rattle.marks.specs.declared.Mark.TheVariants.{Rt, Op}
 use Rattle.marks.specs.declared.Record.TheVariants as is
 use Rattle.marks.specs.declared.End.{End}
 use Rattle.marks.specs.declared.End.TheVariants as end
 use Rattle.marks.specs.Marks.{read, fields, after, word, long}
-use Rattle.runs.specs.Run.{Next, goes, stops, Run, ended, ran, counted}
+use Rattle.runs.specs.Run.{goes, stops, ended, ran, counted}
 use Rattle.runs.proofs.Turns.{ran_goes, ran_stops}
 use Rattle.pairing.specs.declared.Pairs.{Pairs}
 use Rattle.pairing.specs.Pairing.{paired}
 use Rattle.growing.specs.Growing.{grown}
 use Rattle.turns.specs.Turns as turns
 use Rattle.turns.specs.Turns.{pairing, growing, voting, seated, rooted, opened_round, based, took}
-use Rattle.journal.specs.declared.Journal.{Journal}
 use Rattle.journal.specs.Journal.{laid, by_value, run_from}
 use Rattle.std.specs.Prelude.{Option, Some, None, Result, Ok, Err}
 use Rattle.refusals.specs.declared.Refusal.TheVariants.{UnknownBase}

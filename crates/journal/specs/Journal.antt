@@ -1,11 +1,10 @@
 -- A journal's state by value. Document 01, "The journal" and "Shape rules": what is handed in is tested; what is not yet told is blank.
-use Rattle.std.specs.Prelude.{Bool, true, false, ◌&&◌, List, ◌≡◌, ℕ, ◌+◌, ◌≤◌, leb, length, drop, Option, Some, None}
+use Rattle.std.specs.Prelude.{Bool, true, false, ◌&&◌, List, ℕ, ◌≤◌, leb, length, drop, Option, Some, None}
 use Rattle.sizes.specs.Sizes.{PAIRS}
 use Rattle.voter_set.specs.Good.{good}
 use Rattle.block_shape.specs.Shape.{tabled}
 use Rattle.graph_rows.specs.Rows.{rows_of}
 use Rattle.runs.specs.Run.{Run, ran}
-use Rattle.round.specs.declared.History.{History}
 use Rattle.round.specs.declared.Round.{Round}
 use Rattle.round.specs.Shape.{frame, held, shaped}
 use Rattle.round.specs.Calls.{made, opened, nobody, no_blocks}

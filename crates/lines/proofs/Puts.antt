@@ -1,10 +1,10 @@
 -- Texts put one after the other are one text.
-use mathlib.Core.List.{List, [], ◌++◌, append_assoc, append-nil}
+use mathlib.Core.List.{List, ◌++◌, append_assoc, append-nil}
 use mathlib.Core.Path.{◌≡◌, refl, sym, ap, ◌∙◌}
 use Prim.Native.Nat.{ℕ, ◌+◌, ◌-◌, ◌≤◌}
 use native.Mathlib.Omega.{arith}
 use lib.ListN.{length, take, drop, length-append, length-take, length-drop, drop_of_length-le}
-use lib.Seq.{take_all, take-length, take_at, drop-drop, drop-append-add, length-take-le}
+use lib.Seq.{take_all, take_at, drop-drop, drop-append-add, length-take-le}
 use Rattle.lines.specs.Put.{Put}
 
 pub length_put : {old text new : List ℕ} {at next : ℕ} → Put old at text new next → length new ≡ length old
