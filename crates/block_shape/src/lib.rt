@@ -52,13 +52,14 @@ fn is_child<'a>(parents: &'a [u8; BLOCKS], numbers: &'a [u32; BLOCKS], k: usize)
     requires { k < BLOCKS }
     ensures { result ≡ is_child parents.now numbers.now k }
 {
-    let parent = wide(parents[k]);
+    let parent = usize::from(parents[k]);
     if k <= parent {
         return false;
     }
-    wider(numbers[k]) == wider(numbers[parent]) + 1
+    u64::from(numbers[k]) == u64::from(numbers[parent]) + 1
 }
 
+// Each id is looked for before its own place, so that places are counted.
 fn are_distinct(ids: &[u32; BLOCKS], count: usize) -> bool
     requires { count ≤ BLOCKS }
     ensures { result ≡ are_distinct ids.now count }
@@ -82,16 +83,4 @@ fn are_clear<'a>(
     ensures { result ≡ are_clear ids.now numbers.now parents.now count }
 {
     lists::blank(ids, count) && lists::blank(numbers, count) && lists::blank(parents, count)
-}
-
-fn wide(x: u8) -> usize
-    ensures { (result ≡ x) × (result < BLOCKS) }
-{
-    x as usize
-}
-
-fn wider(x: u32) -> u64
-    ensures { (result ≡ x) × (result < 4294967296) }
-{
-    x as u64
 }

@@ -10,7 +10,7 @@ ghost use Rattle.climbs.specs.Places.{col, flag, Falls};
 
 use sizes::BLOCKS;
 
-// A place as an index.
+// A place as an index. Beside what `usize::from` says, its contract has the bound that each use of the index needs.
 pub fn wide(place: u8) -> usize
     ensures { (result ≡ place) × (result < BLOCKS) }
 {

@@ -34,7 +34,7 @@ fn used(column: &[u32], count: usize) -> usize
     count.min(column.len())
 }
 
-// Places that need not be searched, whole eights of them.
+// Places that need not be searched, whole eights of them. They are counted by hand, since the count is the answer.
 fn skip(column: &[u32], end: usize, x: u32) -> usize
     requires { end ≤ length column.now }
     ensures { (result ≤ end) × (first (is_at column.now x) Some None end 0 ≡ first (is_at column.now x) Some None (end - result) result) }

@@ -25,7 +25,7 @@ pub struct Places {
 }
 
 impl Places {
-    // The places that count.
+    // The places that count. Their bound is asked for here, since a ghost field would forbid `placed` of a list that is too long.
     pub fn as_slice(&self) -> &[u8]
         requires { self.now.count ≤ BLOCKS }
         ensures { result.now ≡ front self.now.count self.now.places }

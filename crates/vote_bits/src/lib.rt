@@ -23,8 +23,8 @@ pub fn told<'a>(
 {
     let mut joined = [[0u64; WORDS]; BLOCKS];
     join_votes(parents, counts, first_block, &mut joined);
-    for x in 0..BLOCKS {
-        if !is_told(used[x], rows[x], joined[x]) {
+    for (x, &node) in used.iter().enumerate() {
+        if !is_told(node, rows[x], joined[x]) {
             return false;
         }
     }
@@ -41,8 +41,8 @@ fn join_votes<'a>(
     requires { (Falls parents.now) × (Held rows.old (λ x j. false)) }
     ensures { Held rows.new (lies parents.now counts.now first_block.now) }
 {
-    for j in 0..VOTES {
-        if counts[j] == 0 {
+    for (j, &n) in counts.iter().enumerate() {
+        if n == 0 {
             continue;
         }
         let at = wide(first_block[j]);
@@ -76,8 +76,8 @@ pub fn doubled(counts: &[u8; VOTES], equivocations: [u64; WORDS]) -> bool
     ensures { result ≡ doubled counts.now equivocations }
 {
     let mut bits = [0u64; WORDS];
-    for j in 0..VOTES {
-        if counts[j] <= 1 {
+    for (j, &n) in counts.iter().enumerate() {
+        if n <= 1 {
             continue;
         }
         let more = bitfield::set_bit(bits, j);

@@ -6,9 +6,9 @@ use mathlib.Core.Logic.{◌≢◌}
 use Prim.Native.Nat.{ℕ, zero, suc, pred, ◌≤◌, ◌<◌}
 use native.Mathlib.Decide.{ℕ_discrete}
 use native.Mathlib.Omega.{arith}
-use lib.Dec.{T, eqb}
+use lib.Dec.{T, eqb, ltb}
 use lib.ListN.{take, length}
-use borrow.Author.Tests.{eq-eqb, ne_eqb}
+use borrow.Author.Tests.{eq-eqb, ne_eqb, lt-ltb}
 use Rattle.loops.specs.Listing.{times, fold, front}
 use Rattle.loops.proofs.Tests.{T_true, T_false}
 use Rattle.loops.proofs.Listings.{times_here, times_none}
@@ -27,42 +27,25 @@ use Rattle.nodes.proofs.Lists.{front_take, placed_front, placed_count}
 use Rattle.nodes.proofs.Tied.{found_is}
 use Rattle.std.specs.Prelude.{Option, Some, None}
 use Rattle.core.specs.Option.{unwrap_or}
+use Rattle.core.specs.Bool.{then_some}
 
-nil_left : (l : List ℕ) → length l ≡ 0 → is_nil l ≡ true
-nil_left [] e = refl
-nil_left (x ∷ l) e = absurd (omega arith)
+some_left : {A : Type 0} (l : List ℕ) (x : A) → then_some (ltb 0 (length l)) x ≡ cond (is_nil l) None (Some x)
+some_left [] x = refl
+some_left (y ∷ l) x = rw (lt-ltb 0 (suc (length l)) (omega arith))
 
-some_left : (l : List ℕ) → length l ≢ 0 → is_nil l ≡ false
-some_left [] d = absurd (d refl)
-some_left (x ∷ l) d = refl
-
--- the three ways of `cumulative_vote`
+-- the two ways of `cumulative_vote`
 module _ (parents : List ℕ) (used : List Bool) (above : List ℕ) (rows : List (List ℕ)) (heads : List ℕ) (tips b : ℕ) where
   pub tallied_node : (k : ℕ) → k ≡ b → flag used k ≡ true → Some (row rows k) ≡ tallied parents used above rows heads tips b
   unfolding tallied
   tallied_node k e u = rw (← e, u)
 
-  module _ (k : ℕ) (e : k ≡ b) (u : flag used k ≡ false) (h : tips ≤ length heads) (m : Places)
-      (p : m ≡ placed (found (col parents) (col above) (take tips heads) b)) where
-    abbrev ns : List ℕ
-    ns = found (col parents) (col above) (take tips heads) b
-
-    pub tallied_none : m.count ≡ 0 → None ≡ tallied parents used above rows heads tips b
-    unfolding tallied
-    tallied_none z = rw (sym (ap (flag used) e) ∙ u, front_take tips heads h, nil_left ns (sym (placed_count m _ p) ∙ z))
-
-    pub tallied_bare : m.count ≢ 0 → (xs : List ℕ) → xs ≡ front m.count m.places → (v : List ℕ) → v ≡ join_of (row rows) xs
-        → Some v ≡ tallied parents used above rows heads tips b
-    unfolding tallied
-    tallied_bare d xs x v q =
-        rw (
-          sym (ap (flag used) e) ∙ u,
-          front_take tips heads h,
-          some_left ns (λ z. d (placed_count m _ p ∙ z)),
-          q,
-          x,
-          placed_front m _ p,
-        )
+  pub tallied_bare : (k : ℕ) → k ≡ b → flag used k ≡ false → tips ≤ length heads
+      → (m : Places) → m ≡ placed (found (col parents) (col above) (take tips heads) b) → (xs : List ℕ) → xs ≡ front m.count m.places
+      → (v : List ℕ) → v ≡ join_of (row rows) xs → then_some (ltb 0 m.count) v ≡ tallied parents used above rows heads tips b
+  unfolding tallied
+  tallied_bare k e u h m p xs x v q =
+      rw (sym (ap (flag used) e) ∙ u, front_take tips heads h, placed_count m _ p, q, x, placed_front m _ p)
+      (some_left (found (col parents) (col above) (take tips heads) b) _)
 
 -- what a test says of an answer that it picks
 picked_none : {A : Type 0} (z : Bool) (o : Option A) (x : A) → o ≡ None → o ≡ cond z None (Some x) → z ≡ true

@@ -42,11 +42,8 @@ pub fn cumulative_vote<'a>(
         return Some(own);
     }
     let found = containing::find_containing_nodes(parents, above, &heads[..tips], block);
-    if found.count == 0 {
-        return None;
-    }
     let joined = nodes::join_of(rows, found.as_slice());
-    Some(joined)
+    (0 < found.count).then_some(joined)
 }
 
 // The first block from a block towards the base whose bits answer a question with yes. Nothing where none does, or where

@@ -6,8 +6,8 @@ use Rattle.block_shape.proofs.is_child.Goals as goal
 
 pub returns-then-k-parent : goal.returns-then-k-parent
 unfolding is_child
-returns-then-k-parent c = rw (le-ltb (up c.args.parents.now c.args.k) c.args.k (omega (arith, c.wide-parent.ensures.0, c.if-k-parent.true)))
+returns-then-k-parent c = rw (le-ltb (up c.args.parents.now c.args.k) c.args.k (omega (arith, c.from-parent.ensures, c.if-k-parent.true)))
 
 pub returns : goal.returns
 unfolding is_child
-returns c = rw (c.wider.ensures.0, c.wider-2.ensures.0, c.wide-parent.ensures.0, lt-ltb (up c.args.parents.now c.args.k) c.args.k (omega (arith, c.wide-parent.ensures.0, c.if-k-parent.false)))
+returns c = rw (c.from.ensures, c.from-2.ensures, c.from-parent.ensures, lt-ltb (up c.args.parents.now c.args.k) c.args.k (omega (arith, c.from-parent.ensures, c.if-k-parent.false)))

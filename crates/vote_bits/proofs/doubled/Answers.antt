@@ -9,11 +9,11 @@ use Rattle.vote_bits.proofs.doubled.Goals as goal
 pub loop-j-init : goal.loop-j-init
 loop-j-init c = (search rules, put_none _)
 
-pub loop-j-preserved-then-counts-j-le1 : goal.loop-j-preserved-then-counts-j-le1
-loop-j-preserved-then-counts-j-le1 c = (omega (arith, c.loop-j-test.true), put_skip _ _ _ (le-ltb _ _ c.if-counts-j-le1.true) c.loop-j.invariant.1)
+pub loop-j-preserved-then-n-le1 : goal.loop-j-preserved-then-n-le1
+loop-j-preserved-then-n-le1 c = (omega (arith, c.loop-j-test.true), put_skip _ _ _ (le-ltb _ _ c.if-n-le1.true) c.loop-j.invariant.1)
 
 pub loop-j-preserved : goal.loop-j-preserved
-loop-j-preserved c = (omega (arith, c.loop-j-test.true), put_next _ _ _ _ c.loop-j-test.true (lt-ltb _ _ c.if-counts-j-le1.false) c.set_bit-more.ensures c.loop-j.invariant.1)
+loop-j-preserved c = (omega (arith, c.loop-j-test.true), put_next _ _ _ _ c.loop-j-test.true (lt-ltb _ _ c.if-n-le1.false) c.set_bit-more.ensures c.loop-j.invariant.1)
 
 pub returns : goal.returns
 unfolding doubled

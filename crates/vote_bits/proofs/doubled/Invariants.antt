@@ -1,4 +1,4 @@
-use Prim.Native.Nat.{◌≤◌, ◌-◌}
+use Prim.Native.Nat.{◌≤◌}
 use lib.Dec.{ltb}
 use lib.ListN.{get_or}
 use Rattle.sizes.specs.Sizes.{VOTES}
@@ -7,6 +7,3 @@ use Rattle.vote_bits.proofs.doubled.Given as goal
 
 abbrev pub invariant-loop-j : goal.invariant-loop-j
 invariant-loop-j l = (l.j ≤ VOTES) × Put l.bits (λ i. ltb 1 (get_or l.counts i 0)) l.j
-
-abbrev pub decreases-loop-j : goal.decreases-loop-j
-decreases-loop-j l = VOTES - l.j

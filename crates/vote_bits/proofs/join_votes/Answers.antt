@@ -6,8 +6,8 @@ use Rattle.vote_bits.proofs.join_votes.Goals as goal
 pub loop-j-init : goal.loop-j-init
 loop-j-init c = (search rules, small_none c.args.counts.now c.args.first_block.now, cast_none c.args.counts.now c.args.first_block.now _ c.requires.1)
 
-pub loop-j-preserved-then-counts-j-eq0 : goal.loop-j-preserved-then-counts-j-eq0
-loop-j-preserved-then-counts-j-eq0 c = (omega (arith, c.loop-j-test.true), small_skip c.args.counts.now c.args.first_block.now _ c.if-counts-j-eq0.true c.loop-j.invariant.1, cast_skip c.args.counts.now c.args.first_block.now _ _ c.if-counts-j-eq0.true c.loop-j.invariant.2)
+pub loop-j-preserved-then-n-eq0 : goal.loop-j-preserved-then-n-eq0
+loop-j-preserved-then-n-eq0 c = (omega (arith, c.loop-j-test.true), small_skip c.args.counts.now c.args.first_block.now _ c.if-n-eq0.true c.loop-j.invariant.1, cast_skip c.args.counts.now c.args.first_block.now _ _ c.if-n-eq0.true c.loop-j.invariant.2)
 
 pub offset_bounds-rows-at : goal.offset_bounds-rows-at
 offset_bounds-rows-at c = omega (arith, c.wide-at.ensures.1)
@@ -22,7 +22,7 @@ pub bounds-rows-at-in-loop-j : goal.bounds-rows-at-in-loop-j
 bounds-rows-at-in-loop-j c = c.wide-at.ensures.1
 
 pub loop-j-preserved : goal.loop-j-preserved
-loop-j-preserved c = (omega (arith, c.loop-j-test.true), small_next c.args.counts.now c.args.first_block.now _ _ c.wide-at.ensures.0 c.wide-at.ensures.1 c.loop-j.invariant.1, cast_put c.args.counts.now c.args.first_block.now _ _ _ _ c.loop-j-test.true c.if-counts-j-eq0.false c.wide-at.ensures.0 c.wide-at.ensures.1 c.set_bit-more.ensures c.loop-j.invariant.2)
+loop-j-preserved c = (omega (arith, c.loop-j-test.true), small_next c.args.counts.now c.args.first_block.now _ _ c.wide-at.ensures.0 c.wide-at.ensures.1 c.loop-j.invariant.1, cast_put c.args.counts.now c.args.first_block.now _ _ _ _ c.loop-j-test.true c.if-n-eq0.false c.wide-at.ensures.0 c.wide-at.ensures.1 c.set_bit-more.ensures c.loop-j.invariant.2)
 
 pub loop-low-init : goal.loop-low-init
 loop-low-init c = (omega arith, search rules, λ falls. lift_start c.args.parents.now c.args.counts.now c.args.first_block.now falls _ _ c.loop-j-test.false c.loop-j.invariant.1 c.loop-j.invariant.2)

@@ -8,8 +8,5 @@ use Rattle.vote_bits.proofs.join_votes.Given as goal
 abbrev pub invariant-loop-j : goal.invariant-loop-j
 invariant-loop-j l = (l.j ≤ VOTES) × Small l.counts l.first_block l.j × Held l.rows (sofar l.counts l.first_block l.j)
 
-abbrev pub decreases-loop-j : goal.decreases-loop-j
-decreases-loop-j l = VOTES - l.j
-
 abbrev pub invariant-loop-low : goal.invariant-loop-low
 invariant-loop-low l = (1 ≤ l.low) × (l.low ≤ BLOCKS) × ((falls : Falls l.parents) → Held l.rows (lifted l.parents l.counts l.first_block falls (l.low - 1)))
