@@ -14,7 +14,7 @@ use sizes::BLOCKS;
 
 // The blocks by place, with unused places 0. A parent is a place; the root is its own. The fields are public, so that
 // the columns can be lent: a table of anyone's making can be handed in, and `is_table` tells it from one that was
-// built by calls.
+// built by calls. A count stands beside the columns, since a stored table of anyone's making is taken as it stands, in fixed memory.
 #[derive(Clone, Copy, PartialEq, Eq)]
 pub struct BlockTable {
     pub ids: [u32; BLOCKS],
@@ -23,7 +23,7 @@ pub struct BlockTable {
     pub count: usize,
 }
 
-// The answer, and the table after the call.
+// The answer, and the table after the call; like the other answers beside a state, it names the state that it has.
 #[derive(Clone, Copy)]
 pub struct Added {
     pub answer: Result<u8, Refusal>,

@@ -8,7 +8,8 @@ ghost use Rattle.std.specs.Prelude.{◌<◌, ◌≤◌};
 use asked::Asked;
 use round_words::SIZE;
 
-// What a field holds: numbers of some width, a count with its size, flags, an index of history, a stored block.
+// What a field holds: numbers of some width, a count with its size, flags, an index of history, a stored block. It decides how many ways there
+// are to damage the field and which numbers they put there, so that the same words come in the same order as recorded.
 #[derive(Clone, Copy)]
 pub enum Kind {
     Byte,

@@ -3,7 +3,7 @@
 
 use sizes::HISTORY;
 
-// Entries of history in an order.
+// Entries of history in an order, in fixed memory.
 #[derive(Clone, Copy)]
 pub struct Entries {
     pub entries: [u16; HISTORY],

@@ -15,7 +15,7 @@ use journal::{Journal, Progress};
 use marks::{End, Record};
 use refusals::Refusal;
 
-// The bytes of a record that is not whole yet; places past the count are not looked at.
+// The bytes of a record that is not whole yet; places past the count are not looked at. It is part of a stored replay, in fixed memory.
 #[derive(Clone, Copy)]
 pub struct Rest {
     pub bytes: [u8; 22],
@@ -32,13 +32,14 @@ pub struct Replay {
     pub stop: Result<(), Refusal>,
 }
 
+// The answer, and the replay after the call, by that name.
 #[derive(Clone, Copy)]
 pub struct Fed {
     pub answer: Result<(), Refusal>,
     pub replay: Replay,
 }
 
-// A record's bytes from two pieces.
+// A record's bytes from two pieces, in fixed memory.
 #[derive(Clone, Copy)]
 pub struct Joint {
     pub bytes: [u8; 44],

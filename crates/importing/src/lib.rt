@@ -28,6 +28,7 @@ pub struct Standing {
     pub answers: Answers,
 }
 
+// The answer, and what stands beside the columns after the vote, by that name.
 #[derive(Clone, Copy)]
 pub struct Step {
     pub answer: Result<ImportResult, Refusal>,

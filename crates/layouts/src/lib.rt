@@ -1,5 +1,6 @@
 // Where the votes of a voter stand: the index of its votes in a phase, which is also its bit, and the entries of history of an
-// index. No other crate computes with an index or an entry. A phase is 0 for prevotes, 1 for precommits.
+// index. No other crate computes with an index or an entry. The layout computes with a phase, 0 for prevotes and 1 for precommits, and with
+// which pair an entry is, so both are numbers here; `context` gives its callers the type `Phase`.
 #![tactic(auto)]
 
 ghost use Rattle.std.specs.Prelude.{◌≡◌, ◌-◌, ◌^◌, ◌<◌, min};
@@ -9,7 +10,7 @@ ghost use Rattle.layouts.specs.Layout.{index, index_place, index_phase, entry, e
 // So many prevotes by rising place, then as many precommits, and so on.
 const RUN: usize = 1;
 
-const MOST: usize = 18446744073709551615;
+const MOST: usize = usize::MAX;
 
 // The index of the voter at a place.
 pub fn index(phase: usize, place: usize) -> usize

@@ -17,7 +17,7 @@ use refusals::Refusal;
 use sizes::{BLOCKS, HISTORY, VOTERS, VOTES};
 use tracker::{Pair, VoteMultiplicity};
 
-// The votes of a phase; or the precommits that finalize the block at a place.
+// The votes of a phase; or the precommits that finalize the block at a place. No closure, since the promises of the lists speak of what is wanted.
 #[derive(Clone, Copy)]
 pub enum Wanted {
     Of(Phase),

@@ -17,7 +17,7 @@ use context::{Phase, weighing};
 use grandpa::PossibleToPrecommit;
 use sizes::{BLOCKS, VOTERS, WORDS};
 
-// Places in the order in which they were found.
+// Places in the order in which they were found, in fixed memory; unused places are 0, since a list may become a stored column.
 #[derive(Clone, Copy)]
 pub struct Places {
     pub places: [u8; BLOCKS],

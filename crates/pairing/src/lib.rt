@@ -15,7 +15,7 @@ use refusals::Refusal;
 use sizes::PAIRS;
 use std::ops::ControlFlow;
 
-// Pairs in the order in which they came; the first `count` places are used.
+// Pairs in the order in which they came; the first `count` places are used. They are part of a stored journal, in fixed memory.
 #[derive(Clone, Copy)]
 pub struct Pairs {
     pub ids: [u32; PAIRS],

@@ -28,7 +28,7 @@ use vote_graph::VoteGraph;
 use voter_info::VoterInfo;
 use voter_set::VoterSet;
 
-// `HistoricalVotes`: recorded votes in arrival order, as entries.
+// `HistoricalVotes`: recorded votes in arrival order, as entries; a part of a stored round, in fixed memory.
 #[derive(Clone, Copy)]
 pub struct History {
     pub entries: [u16; HISTORY],
@@ -50,7 +50,7 @@ pub struct Round {
     pub answers: Answers,
 }
 
-// An answer, and the round after the call.
+// An answer, and the round after the call, by that name.
 #[derive(Clone, Copy)]
 pub struct After<A> {
     pub answer: A,

@@ -13,7 +13,7 @@ use std::ops::ControlFlow;
 // The number that Linux gives a call which a signal interrupted.
 const EINTR: i32 = 4;
 
-// What came of all the bytes that were to be read or written, where no call failed.
+// What came of all the bytes that were to be read or written, where no call failed. An Option would not say which of the two is the whole.
 #[derive(Clone, Copy)]
 pub enum Moved {
     // All of them.

@@ -11,7 +11,8 @@ ghost use Rattle.tracker.specs.Votes.{votes_at, no_votes};
 use sizes::{BLOCKS, VOTES};
 
 // How many pairs are recorded at an index, 0, 1 or 2; the place of the first pair's target in the block table, and its
-// signature; the second pair as it came, since its target is not looked up. Unused places are 0.
+// signature; the second pair as it came, since its target is not looked up. Unused places are 0. Columns and no rows: stored votes of anyone's
+// making are taken as they stand, and a test of one column reads it alone.
 #[derive(Clone, Copy)]
 pub struct Votes {
     pub counts: [u8; VOTES],

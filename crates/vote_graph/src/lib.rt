@@ -19,6 +19,7 @@ pub mod named;
 // One place a block of the table. Which have a vote-node, the node above each, and its bits; all nodes but the base in the
 // order in which they were listed; the nodes that list none, by rising id. The fields are public, so that the columns can
 // be lent: a graph of anyone's making can be handed in, and `is_graph` tells it from one that was built by calls.
+// A count stands beside the columns, since a stored graph of anyone's making is taken as it stands, in fixed memory.
 #[derive(Clone, Copy)]
 pub struct VoteGraph {
     pub base: u8,
@@ -31,7 +32,7 @@ pub struct VoteGraph {
     pub tips: usize,
 }
 
-// The answer, and the graph after the call.
+// The answer, and the graph after the call, by that name.
 #[derive(Clone, Copy)]
 pub struct Inserted {
     pub answer: Result<u8, Refusal>,

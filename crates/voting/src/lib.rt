@@ -21,7 +21,7 @@ use sizes::{BLOCKS, HISTORY, VOTERS, VOTES, WORDS};
 use std::ops::ControlFlow;
 use tracker::Pair;
 
-// What a mark is in this turn.
+// What a mark is in this turn: no step to run, but three kinds of record.
 #[derive(Clone, Copy)]
 pub enum Kind {
     Block,
