@@ -63,8 +63,6 @@ def point_1():
         for name, head, body in functions(t):
             if re.search(r'\b(phase: usize|pair: usize|list: u8|kind: u\d+)', head):
                 yield p, 'fn %s: a kind is a number' % name
-            if re.search(r'answer: (?:Answer|Done|Votes|Told|Stop)\b', head):
-                yield p, 'fn %s' % name
         for name, fields in types(t, 'enum'):
             if set(fields) == {'Less', 'Equal', 'Greater'}:
                 yield p, 'enum %s: std has it' % name

@@ -23,7 +23,7 @@ pub struct BlockTable {
     pub count: usize,
 }
 
-// The answer, and the table after the call; like the other answers beside a state, it names the state that it has.
+// The answer, and the table after the call: a `Result` alone would lose the table.
 #[derive(Clone, Copy)]
 pub struct Added {
     pub answer: Result<u8, Refusal>,

@@ -1,5 +1,5 @@
 -- A column of numbers and how many of its places are used. Document 01, "Forms that must change": arrays with counts, kept
--- in the Rust's order; own answer enums.
+-- in the Rust's order.
 use Rattle.std.specs.Prelude.{Bool, List, ℕ, min, eqb, length, get_or, Option, Some, None}
 use Rattle.loops.specs.Loop.{first}
 use Rattle.loops.specs.All.{any}

@@ -32,7 +32,7 @@ pub struct Replay {
     pub stop: Result<(), Refusal>,
 }
 
-// The answer, and the replay after the call, by that name.
+// The answer, and the replay after the call: a `Result` alone would lose the replay.
 #[derive(Clone, Copy)]
 pub struct Fed {
     pub answer: Result<(), Refusal>,

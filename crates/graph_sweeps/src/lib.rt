@@ -10,7 +10,7 @@ ghost use Rattle.graph_sweeps.specs.Swept.{inside, tied};
 use climbs::wide;
 use sizes::BLOCKS;
 
-// One sweep finds the blocks at or below the base. A block's number is compared as well as looked up, so that it is counted.
+// One sweep finds the blocks at or below the base. A place is compared as well as looked up, so that places are counted.
 pub fn inside<'a>(
     parents: &'a [u8; BLOCKS],
     count: usize,
@@ -57,7 +57,7 @@ fn is_inside(node: bool, k: usize, count: usize, low: bool) -> bool
     low
 }
 
-// One sweep finds the nearest node at or above each block. A block's number is what is noted here.
+// One sweep finds the nearest node at or above each block. What is noted is a place, so that places are counted.
 pub fn tied<'a>(
     parents: &'a [u8; BLOCKS],
     used: &'a [bool; BLOCKS],

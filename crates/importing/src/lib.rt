@@ -28,7 +28,7 @@ pub struct Standing {
     pub answers: Answers,
 }
 
-// The answer, and what stands beside the columns after the vote, by that name.
+// The answer, and what stands beside the columns after the vote: a `Result` alone would lose it.
 #[derive(Clone, Copy)]
 pub struct Step {
     pub answer: Result<ImportResult, Refusal>,

@@ -43,7 +43,7 @@ unfoldable pub heard_line : List ℕ → ℕ → ℕ → ℕ → ℕ → List �
 heard_line word weight total threshold voters =
     named word weight ++ named (text " of ") total ++ named (text " need ") threshold ++ named (text " voters ") voters ++ text "\n"
 
--- ` 12 2`, ` none`; `block_of` refuses nothing
+-- ` 12 2`, ` none`
 abbrev pub block_end : Option (ℕ × ℕ) → List ℕ
 block_end (Some (id, number)) = named (text " ") id ++ named (text " ") number ++ text "\n"
 block_end None = text " none\n"

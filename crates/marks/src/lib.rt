@@ -32,12 +32,6 @@ pub enum End {
     Left,
 }
 
-fn wide(b: u8) -> u32
-    ensures { (result ≡ b) × (result < 256) }
-{
-    b as u32
-}
-
 // The two bytes go as one number, so that one look tells the mark.
 fn name(mark: u32) -> Option<Mark>
     ensures { result ≡ named mark }
@@ -74,7 +68,7 @@ pub fn read(bytes: &[u8]) -> Record
     if bytes.len() < 2 {
         return Record::Cut;
     }
-    let Some(mark) = name(wide(bytes[0]) + 256 * wide(bytes[1])) else {
+    let Some(mark) = name(u32::from(bytes[0]) + 256 * u32::from(bytes[1])) else {
         return Record::Unknown;
     };
     if bytes.len() < 2 + size(mark) {

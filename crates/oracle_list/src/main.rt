@@ -35,19 +35,17 @@ fn read_length(mut input: Stdin) -> Result<Option<usize>> {
 }
 
 // A journal of so many bytes, by pieces of a size.
-fn read_journal(input: Stdin, length: usize, size: usize) -> Result<Replay>
-    requires { size ≤ 97 }
-{
+fn read_journal(input: Stdin, length: usize, size: usize) -> Result<Replay> {
     let mut space = [0u8; LONGEST];
     let mut replay = Replay::new();
     let mut left = length;
-    while left != 0 {
-        let got = read(input, &mut space[..left.min(size)])?;
-        if got == 0 {
-            break;
-        }
+    for _ in 0..length {
+        let got = read(input, &mut space[..left.min(size).min(LONGEST)])?;
         replay = replay.feed(&space[..got]).replay;
         left -= got;
+        if left == 0 {
+            break;
+        }
     }
     Ok(replay)
 }

@@ -50,7 +50,7 @@ pub struct Round {
     pub answers: Answers,
 }
 
-// An answer, and the round after the call, by that name.
+// An answer, and the round after the call: a `Result` alone would lose the round.
 #[derive(Clone, Copy)]
 pub struct After<A> {
     pub answer: A,

@@ -10,7 +10,7 @@ use Rattle.marks.specs.Marks.{read, fields, after}
 use Rattle.refusals.specs.declared.Refusal.TheVariants.{UnknownMark}
 use Rattle.refusals.specs.declared.Refusal.{Refusal}
 
--- what becomes of a state at a record: the next state, a refusal with its number, or the record belongs to another turn
+-- what becomes of a state at a record: the next state, a refusal, or the record belongs to another turn
 pub data Next (S : Type 0) : Type 0 where
   goes : S → Next S
   stops : Refusal → Next S

@@ -7,8 +7,6 @@ use Rattle.runs.specs.Run.{Next, goes, stops, leaves}
 use Rattle.std.specs.declared.ops.ControlFlow.{ControlFlow}
 use Rattle.std.specs.declared.ops.ControlFlow.TheVariants.{Continue, Break}
 use Rattle.marks.specs.declared.End.{End}
-use Rattle.std.specs.declared.ops.ControlFlow.{ControlFlow}
-use Rattle.std.specs.declared.ops.ControlFlow.TheVariants.{Continue, Break}
 
 pub record Tried (S : Type 0) : Type 0 where
   pub state : S

@@ -32,7 +32,7 @@ pub struct VoteGraph {
     pub tips: usize,
 }
 
-// The answer, and the graph after the call, by that name.
+// The answer, and the graph after the call: a `Result` alone would lose the graph.
 #[derive(Clone, Copy)]
 pub struct Inserted {
     pub answer: Result<u8, Refusal>,

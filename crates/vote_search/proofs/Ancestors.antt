@@ -26,8 +26,8 @@ use Rattle.vote_search.specs.Searches.{tallied, unlisted}
 use Rattle.nodes.proofs.Lists.{front_take, placed_front, placed_count}
 use Rattle.nodes.proofs.Tied.{found_is}
 use Rattle.std.specs.Prelude.{Option, Some, None}
-use Rattle.core.specs.Option.{unwrap_or}
-use Rattle.core.specs.Bool.{then_some}
+use Rattle.std.specs.Prelude.{unwrap_or}
+use Rattle.std.specs.Bool.{then_some}
 
 some_left : {A : Type 0} (l : List ℕ) (x : A) → then_some (ltb 0 (length l)) x ≡ cond (is_nil l) None (Some x)
 some_left [] x = refl

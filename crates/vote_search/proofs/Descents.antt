@@ -28,7 +28,7 @@ use Rattle.vote_search.specs.Searches.{tallied, followed, unheaded}
 use Rattle.vote_search.proofs.Ancestors.{tallied_is}
 use Rattle.nodes.proofs.Tied.{listed_is}
 use Rattle.std.specs.Prelude.{Option, Some, None}
-use Rattle.core.specs.Option.{unwrap_or}
+use Rattle.std.specs.Prelude.{unwrap_or}
 
 length_listed : (above : ℕ → ℕ) (k : ℕ) (xs : List ℕ) (x : ℕ) → length (listed_under above (front k xs) x) ≤ k
 unfolding listed_under

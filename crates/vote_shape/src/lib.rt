@@ -182,7 +182,7 @@ fn written<'a>(counts: &'a [u8; VOTES], entries: &'a [u16; HISTORY], count: usiz
     lists::laid(entries, count, &pairs)
 }
 
-// The entries of the recorded pairs. An entry's number is what is asked of, and its place.
+// The entries of the recorded pairs. An entry is a number: what is asked about, and its own place among the marks.
 fn pairs(counts: &[u8; VOTES]) -> [bool; HISTORY]
     ensures { result ≡ marks HISTORY (paired counts.now) }
 {

@@ -1,4 +1,4 @@
--- A voter's place and weight. Document 01, "Porting order" 2: `get`; "Forms that must change": own answer enums.
+-- A voter's place and weight. Document 01, "Porting order" 2: `get`.
 use Rattle.std.specs.Prelude.{List, ℕ, get_or, Option, Some, None}
 use Rattle.columns.specs.Find.{find}
 use Rattle.weights.specs.declared.VoterWeight.{VoterWeight}

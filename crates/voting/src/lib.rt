@@ -21,7 +21,7 @@ use sizes::{BLOCKS, HISTORY, VOTERS, VOTES, WORDS};
 use std::ops::ControlFlow;
 use tracker::Pair;
 
-// What a mark is in this turn: no step to run, but three kinds of record.
+// What a mark is in this turn: a block, a vote of a phase, or out of turn.
 #[derive(Clone, Copy)]
 pub enum Kind {
     Block,

@@ -57,7 +57,7 @@ fn next(mut input: Stdin, to: Outputs, before: Replay) -> Result<Piece> {
     stepped(to, before, read, &space)
 }
 
-// An input may have no end, so nothing but the count of pieces shows that this ends; no input has as many as are counted.
+// An input may have no end, so nothing but the count of pieces shows that this ends; no run reads as many as are counted.
 fn read_all(input: Stdin, to: Outputs) -> Result<Piece> {
     let mut replay = Replay::new();
     for _ in 0..u64::MAX {

@@ -8,15 +8,15 @@ returns-then-bytes-lt2 c = sym (read_short _ c.if-bytes-lt2.true)
 
 pub returns-in_default : goal.returns-in_default
 returns-in_default c =
-    sym (read_unknown _ c.if-bytes-lt2.false (rw (← c.wide.ensures.0, ← c.wide-2.ensures.0) (sym c.name.ensures ∙ c.in_default.is)))
+    sym (read_unknown _ c.if-bytes-lt2.false (rw (← c.from.ensures, ← c.from-2.ensures) (sym c.name.ensures ∙ c.in_default.is)))
 
 pub overflow_add-size : goal.overflow_add-size
 overflow_add-size c = omega (arith, size_most c.in-Some.mark, c.size.ensures)
 
 pub returns-then-bytes-size : goal.returns-then-bytes-size
 returns-then-bytes-size c =
-    sym (read_cut _ c.in-Some.mark c.if-bytes-lt2.false (rw (← c.wide.ensures.0, ← c.wide-2.ensures.0) (sym c.name.ensures ∙ c.in-Some.is)) (rw c.size.ensures at c.if-bytes-size.true))
+    sym (read_cut _ c.in-Some.mark c.if-bytes-lt2.false (rw (← c.from.ensures, ← c.from-2.ensures) (sym c.name.ensures ∙ c.in-Some.is)) (rw c.size.ensures at c.if-bytes-size.true))
 
 pub returns : goal.returns
 returns c =
-    sym (read_whole _ _ (rw (← c.wide.ensures.0, ← c.wide-2.ensures.0) (sym c.name.ensures ∙ c.in-Some.is)) (rw c.size.ensures at c.if-bytes-size.false))
+    sym (read_whole _ _ (rw (← c.from.ensures, ← c.from-2.ensures) (sym c.name.ensures ∙ c.in-Some.is)) (rw c.size.ensures at c.if-bytes-size.false))
