@@ -36,7 +36,7 @@ use Rattle.importing.specs.Import.{Frame, Held, opened_held, verdict, apply, imp
 use Rattle.held_laws.specs.Kept.{setting, Kept}
 use Rattle.held_laws.specs.Reached as state
 use Rattle.held_laws.specs.Reached.{Comes}
-use Rattle.held_laws.specs.Answered.{as_option, answered}
+use Rattle.held_laws.specs.Answered.{answered}
 use Rattle.held_laws.proofs.Parts.{kept_faithful}
 use Rattle.held_laws.proofs.Adds.{step_ids}
 use Rattle.held_laws.proofs.Reaches.{comes_kept, comes_voters}
@@ -109,7 +109,7 @@ abbrev pub In : ℕ → Option ℕ → Type 0
 In n None = Unit {0}
 In n (Some a) = a < n
 
-pub seat_in : (parents : List ℕ) (base n : ℕ) (o : Option ℕ) → Seated parents base n o → In n (as_option o)
+pub seat_in : (parents : List ℕ) (base n : ℕ) (o : Option ℕ) → Seated parents base n o → In n o
 seat_in parents base n None s = tt
 seat_in parents base n (Some b) s = s.0
 

@@ -6,7 +6,6 @@ use Prim.Native.Nat.{ℕ}
 use native.Mathlib.Omega.{arith}
 use lib.Dec.{T}
 use Rattle.loops.proofs.Tests.{true_T}
-use Rattle.held_laws.specs.Answered.{as_option}
 use Rattle.round.specs.declared.Round.{Round}
 use Rattle.round.specs.Shape.{shaped}
 use Rattle.round.specs.Calls.{block_of}
@@ -18,7 +17,7 @@ use Rattle.std.specs.Prelude.{Option, Some, None, Result, Ok}
 use Rattle.refusals.specs.declared.Refusal.{Refusal}
 use Rattle.round.specs.declared.State.{State}
 
-block_shown : (r : Round) (o : Option ℕ) → Ok (block_of r.table.ids r.table.numbers o) ≡ shown r (as_option o)
+block_shown : (r : Round) (o : Option ℕ) → Ok (block_of r.table.ids r.table.numbers o) ≡ shown r o
 block_shown r (Some b) = refl
 block_shown r None = refl
 

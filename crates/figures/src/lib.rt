@@ -120,8 +120,8 @@ fn put_all(out: &mut [u8], numbers: [u64; 22])
     ensures { out.new ≡ in_order numbers ++ drop 176 out.old }
 {
     let mut used = 0;
-    for k in 0..22usize {
-        put(&mut out[used..], numbers[k]);
+    for number in numbers {
+        put(&mut out[used..], number);
         used += 8;
     }
 }

@@ -19,11 +19,8 @@ pub fn words_of(rows: [Row; BLOCKS]) -> [[u64; WORDS]; BLOCKS]
     ensures { (result ≡ words_of rows) × Paired result }
 {
     let mut words = [[0u64; WORDS]; BLOCKS];
-    for k in 0..BLOCKS {
-        let row = rows[k];
-        let bits = row.bits;
-        let two = pair(bits);
-        words[k] = two;
+    for (k, row) in rows.iter().enumerate() {
+        words[k] = pair(row.bits);
     }
     words
 }
@@ -44,10 +41,8 @@ pub fn rows_of(words: &[[u64; WORDS]; BLOCKS]) -> [Row; BLOCKS]
         bits: [0u64; WORDS],
     };
     let mut rows = [none; BLOCKS];
-    for place in 0..BLOCKS {
-        let bits = words[place];
-        let row = Row { bits };
-        rows[place] = row;
+    for (place, bits) in words.iter().enumerate() {
+        rows[place] = Row { bits: *bits };
     }
     rows
 }

@@ -20,25 +20,15 @@ use Rattle.answer_laws.proofs.Stays.{tells_meant, within_stored}
 use Rattle.importing.specs.Import.{Frame, with_table, Held}
 use Rattle.held_laws.specs.Kept.{setting, Kept}
 use Rattle.held_laws.specs.Reached.{Comes, Reached}
-use Rattle.held_laws.specs.Answered.{as_option, answered}
+use Rattle.held_laws.specs.Answered.{answered}
 use Rattle.held_laws.proofs.Parts.{kept_faithful}
 use Rattle.held_laws.proofs.Reaches.{comes_kept, comes_framed, reached_kept}
 use Rattle.held_laws.proofs.Tells.{Telling, comes_tells, reached_tells}
 use Rattle.held_laws.proofs.Onward.{comes_grown, comes_later}
 use Rattle.std.specs.Prelude.{Option, Some, None}
 
-found_again : (o : Option ℕ) → as_option o ≡ o
-found_again None = refl
-found_again (Some x) = refl
-
 pub answered_stored : (p : Option ℕ) (x : Told) → answered (stored p x) ≡ x
-answered_stored p x =
-    λ i. record {
-      ghost = found_again x.ghost i;
-      finalized = found_again x.finalized i;
-      estimate = found_again x.estimate i;
-      completable = x.completable;
-    }
+answered_stored p x = refl
 
 tells_answered : (k : Setting) (o : Option ℕ) (a : Answers) → Tells k o a
     → answered a ≡ told_from (voters k) (table k) k.base (votes k Prevote) (votes k Precommit) o

@@ -172,9 +172,8 @@ pub fn write<'a>(
         return Err(Refusal::ShortBuffer);
     }
     let mut used = 0;
-    for k in 0..count {
-        let entry = entries[k];
-        let at = layouts::entry_index(entry);
+    for entry in &entries[..count] {
+        let at = layouts::entry_index(*entry);
         let phase = context::phase_at(at);
         let pair = pair_of(
             counts,
@@ -185,7 +184,7 @@ pub fn write<'a>(
             second_signature,
             ids,
             numbers,
-            entry,
+            *entry,
         );
         let place = layouts::index_place(at);
         records::put_vote(&mut out[used..], phase, voters[place], pair);

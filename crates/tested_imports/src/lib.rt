@@ -9,21 +9,10 @@ use round::Round;
 use tracker::Pair;
 
 // Counted up to 2^64 - 1, so that no sum has to be shown to fit.
-fn more(count: u64) -> u64 {
-    if count == 18446744073709551615 {
-        return count;
-    }
-    count + 1
-}
-
 fn counted(count: u64, answer: Result<ImportResult, Refusal>) -> u64 {
     match answer {
         Err(_) => count,
-        Ok(ImportResult::Outside) => more(count),
-        Ok(ImportResult::Counted) => more(count),
-        Ok(ImportResult::Duplicated) => more(count),
-        Ok(ImportResult::Equivocated(_)) => more(count),
-        Ok(ImportResult::Ignored) => more(count),
+        Ok(_) => count.saturating_add(1),
     }
 }
 
@@ -42,9 +31,7 @@ fn pair(fields: &[u8]) -> Pair
 fn votes(opened: Round, bytes: &[u8]) -> u64 {
     let mut round = opened;
     let mut taken = 0u64;
-    let mut at = 0usize;
-    while 22 <= bytes.len() - at {
-        let record = &bytes[at..at + 22];
+    for record in bytes.chunks_exact(22) {
         let signer = marks::word(record, 2);
         let cast = pair(record);
         if record[1] == b'v' {
@@ -58,7 +45,6 @@ fn votes(opened: Round, bytes: &[u8]) -> u64 {
             round = done.round;
             taken = counted(taken, answer);
         }
-        at = at + 22;
     }
     taken
 }
