@@ -39,7 +39,7 @@ extern "C" {
 #define BEAMTASSEL_NOT_ONE_ROUND 16 /* two journals differ in round, voters, base or block table, or one has no round */
 
 /* What a call needs of its thread's stack, at most; `bindings/stack` adds up what each of them does. */
-#define BEAMTASSEL_STACK_BYTES 327680
+#define BEAMTASSEL_STACK_BYTES 262144
 
 /* Sizes of buffers that are never too short. */
 #define BEAMTASSEL_REPORT_BYTES 176

@@ -16,6 +16,6 @@ fn a_thread_with_little_stack() {
         }
         finals
     };
-    let finals = thread::Builder::new().stack_size(327680 + 24 * 1024).spawn(calls).unwrap().join().unwrap();
+    let finals = thread::Builder::new().stack_size(262144 + 24 * 1024).spawn(calls).unwrap().join().unwrap();
     assert!(0 < finals);
 }

@@ -1,11 +1,10 @@
 -- Each call is what the calls below it answer, with the answer as a number.
 use mathlib.Core.Bool.{Bool, true, false, cond}
-use mathlib.Core.List.{List, ◌++◌}
+use mathlib.Core.List.{List}
 use mathlib.Core.Path.{◌≡◌, refl, sym, ap, ◌∙◌}
-use Prim.Native.Nat.{ℕ, ◌+◌, ◌*◌}
+use Prim.Native.Nat.{ℕ, ◌*◌}
 use lib.Dec.{ltb}
-use lib.ListN.{length, drop}
-use Rattle.grandpa.specs.Views.{two_views}
+use lib.ListN.{length}
 use Rattle.listing.specs.declared.Wanted.TheVariants.{Finalizing}
 use Rattle.listing.specs.Written.{Lent, record_of, in_a_row, written}
 use Rattle.listing.proofs.Rows.{row_length, record_size}
@@ -21,7 +20,7 @@ use Rattle.summary_lines.specs.Text.{text_of, printed}
 use Rattle.summary_lines.proofs.Same.{text_summed}
 use Rattle.figures.specs.Figures.{figures, in_order, figured}
 use Rattle.figures.proofs.Rows.{figures_length}
-use Rattle.beamtassel.specs.Calls.{Call, refused, given, number_of, has_round, finalizing_in, views_in, weighed, replay_call, print_call, finalizing_call, two_views_call}
+use Rattle.beamtassel.specs.Calls.{Call, refused, given, number_of, has_round, finalizing_in, views_in, weighed, replay_call, print_call, finalizing_call, compared}
 use Rattle.beamtassel.proofs.Rounds.{round_passes}
 use Rattle.std.specs.Prelude.{Option, Some, None, Result, Ok, Err, IsErrAnd}
 use Rattle.std.proofs.lemmas.Result.{err_from_is_err_and}
@@ -106,35 +105,31 @@ module _ (js out : List ℕ) where
         shape : shaped r.journal.round ≡ true
         shape = ap (λ (x : Replay). shaped x.journal.round) is ∙ round_passes js (ap (λ (x : Replay). has_round x.journal.turn) (sym is) ∙ turn)
 
+-- of two replays
 module _ (first second out : List ℕ) (a b : Replay) (a_is : a ≡ replayed first) (b_is : b ≡ replayed second) where
   abbrev Is : ℕ → List ℕ → Type 0
-  Is n after = ◌≡◌ {A = Call} (record { number = n; out = after }) (two_views_call first second out)
+  Is n after = ◌≡◌ {A = Call} (record { number = n; out = after }) (compared a b out)
 
   pub first_refused : (e : Refusal) → a.stop ≡ Err e → (y : Result ℕ Refusal) → IsErrAnd y (λ d. d ≡ e) → Is (number_of y) out
-  unfolding two_views_call
-  first_refused e stop y q = rw (exit_is y q, ← a_is, stop)
+  first_refused e stop y q = rw (exit_is y q, stop)
 
   pub second_refused : a.stop ≡ Ok tt → (e : Refusal) → b.stop ≡ Err e → (y : Result ℕ Refusal) → IsErrAnd y (λ d. d ≡ e)
       → Is (number_of y) out
-  unfolding two_views_call
-  second_refused going e stop y q = rw (exit_is y q, ← a_is, going, ← b_is, stop)
+  second_refused going e stop y q = rw (exit_is y q, going, stop)
 
   module _ (a_open : a.stop ≡ Ok tt) (b_open : b.stop ≡ Ok tt) where
     pub first_none : has_round a.journal.turn ≡ false → Is (number_of (Err UnlikeViews)) out
-    unfolding two_views_call
-    first_none turn = rw (← a_is, a_open, ← b_is, b_open, turn)
+    first_none turn = rw (a_open, b_open, turn)
 
     pub second_none : has_round a.journal.turn ≡ true → has_round b.journal.turn ≡ false → Is (number_of (Err UnlikeViews)) out
-    unfolding two_views_call
-    second_none turn none = rw (← a_is, a_open, ← b_is, b_open, turn, none)
+    second_none turn none = rw (a_open, b_open, turn, none)
 
     module _ (s : has_round a.journal.turn ≡ true) (t : has_round b.journal.turn ≡ true) where
       pub views_done : (v : Result ℕ Refusal) → v ≡ views a.journal.round b.journal.round
           → (n : ℕ) (after : List ℕ) → record { number = n; out = after } ≡ weighed v out → Is n after
-      unfolding two_views_call
       views_done v e n after h =
           h ∙ ap (λ (x : Result ℕ Refusal). weighed x out) (e ∙ views_are a.journal.round b.journal.round (shape first a a_is s) (shape second b b_is t))
-          ∙ rw (← a_is, a_open, ← b_is, b_open, s, t) refl
+          ∙ rw (a_open, b_open, s, t) refl
         where
           shape : (js : List ℕ) (r : Replay) → r ≡ replayed js → has_round r.journal.turn ≡ true → shaped r.journal.round ≡ true
           shape js r is turn =

@@ -10,6 +10,7 @@ use Rattle.round.specs.Ask.{entries_of}
 use Rattle.two_views.specs.Views.{agree, voters, precommits}
 use Rattle.journal.specs.declared.Turn.{Turn}
 use Rattle.journal.specs.declared.Turn.TheVariants.{Voters, Blocks, Votes}
+use Rattle.feeding.specs.declared.Replay.{Replay}
 use Rattle.feeding.specs.Feeding.{replayed}
 use Rattle.report.specs.Report.{lines_of}
 use Rattle.summary.specs.Summary.{summed}
@@ -77,15 +78,16 @@ weighed (Ok w) out = given (little 8 w) out
 weighed (Err n) out = refused n out
 
 -- and where there is no round in either
-unfoldable pub two_views_call : List ℕ → List ℕ → List ℕ → Call
-two_views_call first second out =
-    let a = replayed first in
-    let b = replayed second in
+abbrev pub compared : Replay → Replay → List ℕ → Call
+compared a b out =
     unless_refused a.stop out
     (unless_refused b.stop out
     (cond (has_round a.journal.turn)
     (cond (has_round b.journal.turn) (weighed (views_in a.journal.round b.journal.round) out) (refused UnlikeViews out))
     (refused UnlikeViews out)))
+
+unfoldable pub two_views_call : List ℕ → List ℕ → List ℕ → Call
+two_views_call first second out = compared (replayed first) (replayed second) out
 
 -- a version as one number
 abbrev pub version : ℕ → ℕ → ℕ → ℕ

@@ -3,9 +3,11 @@
 // A call returns how many bytes it wrote from the start of `out`, or 4294967296 and the number of its refusal; then `out` is as it was.
 #![tactic(auto)]
 
-ghost use Rattle.std.specs.Prelude.{◌≡◌, ◌+◌};
-ghost use Rattle.beamtassel.specs.Calls.{Call, number_of, has_round, weighed, replay_call, print_call, finalizing_call, two_views_call, version};
+ghost use Rattle.std.specs.Prelude.{◌≡◌, ◌+◌, List, ℕ};
+ghost use Rattle.feeding.specs.Feeding.{replayed};
+ghost use Rattle.beamtassel.specs.Calls.{Call, number_of, has_round, weighed, replay_call, print_call, finalizing_call, compared, two_views_call, version};
 
+use feeding::Replay;
 use journal::Turn;
 use refusals::Refusal;
 
@@ -84,6 +86,15 @@ fn views(first: &[u8], second: &[u8], out: &mut [u8]) -> Result<usize, Refusal>
 {
     let one = feeding::replayed(first);
     let other = feeding::replayed(second);
+    compared(&one, &other, out)
+}
+
+// Two replays of one round. Never inlined: what it copies would stand on the stack while the second journal is replayed.
+#[inline(never)]
+fn compared(one: &Replay, other: &Replay, out: &mut [u8]) -> Result<usize, Refusal>
+    requires { (first : List ℕ) × (second : List ℕ) × (one.now ≡ replayed first) × (other.now ≡ replayed second) }
+    ensures { ◌≡◌ {A = Call} (record { number = number_of result; out = out.new }) (compared one.now other.now out.old) }
+{
     one.stop?;
     other.stop?;
     if !has_round(one.journal.turn) {

@@ -1,35 +1,10 @@
-use mathlib.Core.Path.{sym, ◌∙◌}
-use Rattle.beamtassel.proofs.Called.{first_refused, second_refused, first_none, second_none, views_refused, views_done}
+use mathlib.Core.Path.{◌∙◌}
+use Rattle.beamtassel.specs.Calls.{compared, two_views_call}
 use Rattle.beamtassel.proofs.views.Goals as goal
 
-pub returns-in_err-one : goal.returns-in_err-one
-returns-in_err-one c =
-    first_refused c.args.first.now c.args.second.now c.args.out.now _ _ c.replayed-one.ensures c.replayed-other.ensures _ c.in_err-one.was _
-    c.from_residual.ensures.1
-
-pub returns-in_err-other : goal.returns-in_err-other
-returns-in_err-other c =
-    second_refused c.args.first.now c.args.second.now c.args.out.now _ _ c.replayed-one.ensures c.replayed-other.ensures c.in_ok-one.was _
-    c.in_err-other.was _ c.from_residual-in_err-other.ensures.1
-
-pub returns-then-not-has_round : goal.returns-then-not-has_round
-returns-then-not-has_round c =
-    first_none c.args.first.now c.args.second.now c.args.out.now _ _ c.replayed-one.ensures c.replayed-other.ensures c.in_ok-one.was
-    c.in_ok-other.was (sym c.has_round.ensures ∙ c.if-not-has_round.true)
-
-pub returns-then-not-has_round-2 : goal.returns-then-not-has_round-2
-returns-then-not-has_round-2 c =
-    second_none c.args.first.now c.args.second.now c.args.out.now _ _ c.replayed-one.ensures c.replayed-other.ensures c.in_ok-one.was
-    c.in_ok-other.was (sym c.has_round.ensures ∙ c.if-not-has_round.false) (sym c.has_round-2.ensures ∙ c.if-not-has_round-2.true)
-
-pub returns-in_err-weight : goal.returns-in_err-weight
-returns-in_err-weight c =
-    views_refused c.args.first.now c.args.second.now c.args.out.now _ _ c.replayed-one.ensures c.replayed-other.ensures c.in_ok-one.was
-    c.in_ok-other.was (sym c.has_round.ensures ∙ c.if-not-has_round.false) (sym c.has_round-2.ensures ∙ c.if-not-has_round-2.false) _
-    c.in_err-weight.ensures _ c.from_residual-in_err-weight.ensures.1
+pub compared-requires : goal.compared-requires
+compared-requires c = (c.args.first.now, c.args.second.now, c.replayed-one.ensures, c.replayed-other.ensures)
 
 pub returns : goal.returns
-returns c =
-    views_done c.args.first.now c.args.second.now c.args.out.now _ _ c.replayed-one.ensures c.replayed-other.ensures c.in_ok-one.was
-    c.in_ok-other.was (sym c.has_round.ensures ∙ c.if-not-has_round.false) (sym c.has_round-2.ensures ∙ c.if-not-has_round-2.false) _
-    c.in_ok-weight.ensures _ _ c.put_weight.ensures
+unfolding two_views_call
+returns c = c.compared.ensures ∙ (λ i. compared (c.replayed-one.ensures i) (c.replayed-other.ensures i) c.args.out.now)
