@@ -237,6 +237,7 @@ pub fn update<'a>(
     let estimate = both.possible;
     let possible = Possible {
         weights,
+        phase: Phase::Precommit,
         still,
         equivocations,
     };

@@ -115,16 +115,16 @@ early_size : (tail : ℕ) → Within 35 (lines.no_round tail)
 unfolding lines.no_round
 early_size tail = both_size no_round_size (line_size (text "tail ") tail)
 
-refused_size : (e : Refusal) (k : ℕ) → Within 53 (lines.refused e k)
+refused_size : (n k : ℕ) → Within 53 (lines.refused n k)
 unfolding lines.refused
-refused_size e k = both_size (both_size (named_size (text "refused ") (number e)) (named_size (text " at ") k)) end_size
+refused_size n k = both_size (both_size (named_size (text "refused ") n) (named_size (text " at ") k)) end_size
 
 pub lines_size : (r : Replay) → length (lines_of r) ≤ 432
 unfolding lines_of
 lines_size r = go r.stop r.journal.turn
   where
     go : (s : Result ⊤ Refusal) (t : Turn) → length (lines_by s t r) ≤ 432
-    go (Err e) t = omega (arith, (refused_size e (plus r.records 1)).at_most)
+    go (Err e) t = omega (arith, (refused_size (number e) (plus r.records 1)).at_most)
     go (Ok tt) Votes = (round_size r.journal.round r.rest.count).at_most
     go (Ok tt) Blocks = omega (arith, (early_size r.rest.count).at_most)
     go (Ok tt) Voters = omega (arith, (early_size r.rest.count).at_most)

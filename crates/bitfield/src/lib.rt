@@ -103,10 +103,10 @@ pub fn odd_bits(bits: [u64; WORDS]) -> [u64; WORDS]
     masked(bits, ODD)
 }
 
-// The set bits of some words, the first of them first.
+// The set bits of some words, the first of them first. The words left are public, so that any set can be walked, and a walk kept and gone on with.
 #[derive(Clone, Copy)]
 pub struct Iter1s {
-    left: [u64; WORDS],
+    pub left: [u64; WORDS],
 }
 
 // The four walks of the Rust.

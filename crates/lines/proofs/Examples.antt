@@ -10,7 +10,6 @@ use Rattle.round.specs.declared.Round.{Round}
 use Rattle.round.specs.Ask.{heard_in}
 use Rattle.lines.specs.Lines.{text, digits, decimal, named, line, heard_line, block_line, completable_line, answer_lines, refused, no_round, round_lines}
 use Rattle.std.specs.Prelude.{Some, None}
-use Rattle.refusals.specs.declared.Refusal.TheVariants.{UnknownMark}
 
 -- round 7, voters 1 to 4 of weight 1, blocks 10 to 13 at places 0 to 3; what was heard and is answered may vary, and the voters heard
 -- are counted in the graph that is given
@@ -65,7 +64,7 @@ opened : (r : Round) → heard_in r.graph Prevote ≡ 0 → heard_in r.graph Pre
 unfolding four round_lines answer_lines completable_line block_line heard_line line named decimal digits
 opened r prevoters precommitters = rw (prevoters, precommitters)
 
-stopped : (refused UnknownMark 3 ≡ text "refused 17 at 3\n") × (no_round 13 ≡ text "no round\n" ++ text "tail 13\n")
+stopped : (refused 17 3 ≡ text "refused 17 at 3\n") × (no_round 13 ≡ text "no round\n" ++ text "tail 13\n")
 unfolding refused no_round line named decimal digits
 stopped = (refl, refl)
 

@@ -9,8 +9,6 @@ use Rattle.context.specs.declared.Phase.TheVariants.{Prevote, Precommit}
 use Rattle.round.specs.declared.Round.{Round}
 use Rattle.round.specs.Ask.{heard_in}
 use Rattle.round.specs.Calls.{block_of}
-use Rattle.refusals.specs.declared.Refusal.{Refusal}
-use Rattle.refusals.specs.Number.{number}
 
 -- a text's characters as numbers: its bytes, since all of them are ASCII here
 abbrev pub text : String → List ℕ
@@ -63,8 +61,8 @@ answer_lines ids numbers a =
     ++ completable_line a.completable
 
 -- the whole texts
-unfoldable pub refused : Refusal → ℕ → List ℕ
-refused refusal k = named (text "refused ") (number refusal) ++ named (text " at ") k ++ text "\n"
+unfoldable pub refused : ℕ → ℕ → List ℕ
+refused n k = named (text "refused ") n ++ named (text " at ") k ++ text "\n"
 
 unfoldable pub no_round : ℕ → List ℕ
 no_round tail = text "no round\n" ++ line (text "tail ") tail

@@ -8,7 +8,6 @@ ghost use Rattle.lines.specs.Put.{Put};
 
 use answers::Answers;
 use context::Phase;
-use refusals::Refusal;
 use round::Round;
 
 // Bytes at a place of a buffer.
@@ -126,10 +125,10 @@ fn put_answers<'a>(
 }
 
 // A refusal's number, and the record's, counted from 1.
-pub fn put_refused(out: &mut [u8; 512], refusal: Refusal, record: u64) -> usize
-    ensures { (out.new ≡ refused refusal «record» ++ drop (length (refused refusal «record»)) out.old) × (result ≡ length (refused refusal «record»)) }
+pub fn put_refused(out: &mut [u8; 512], number: u8, record: u64) -> usize
+    ensures { (out.new ≡ refused number «record» ++ drop (length (refused number «record»)) out.old) × (result ≡ length (refused number «record»)) }
 {
-    let a = put_named(out, 0, b"refused ", refusal.number() as u64);
+    let a = put_named(out, 0, b"refused ", number as u64);
     let b = put_named(out, a, b" at ", record);
     put(out, b, b"\n")
 }

@@ -5,7 +5,6 @@
 ghost use Rattle.std.specs.Prelude.{Bool, ◌≡◌, List, ℕ, ◌≤◌, ◌<◌, length};
 ghost use Rattle.sizes.specs.Sizes.{BLOCKS};
 ghost use Rattle.loops.specs.Listing.{front, keep};
-ghost use Rattle.context.specs.declared.Phase.TheVariants.{Precommit};
 ghost use Rattle.graph.specs.Graph.{join_of};
 ghost use Rattle.graph.specs.Ghost.{under};
 ghost use Rattle.climbs.specs.Places.{col, row, Falls};
@@ -60,19 +59,20 @@ impl<'a> Asks for Weighty<'a> {
     }
 }
 
-// Whether the precommit weight, those who equivocated joined in, can still get the threshold.
+// Whether the weight in a phase, those who equivocated joined in, can still get the threshold.
 #[derive(Clone, Copy)]
 pub struct Possible<'a> {
     pub weights: &'a [u64; VOTERS],
+    pub phase: Phase,
     pub still: PossibleToPrecommit,
     pub equivocations: [u64; WORDS],
 }
 
 impl<'a> Asks for Possible<'a> {
-    ghost asks = { λ q. passes q.weights.now (record { phase = Precommit; condition = Possible q.still; equivocations = q.equivocations }) };
+    ghost asks = { λ q. passes q.weights.now (record { phase = q.phase; condition = Possible q.still; equivocations = q.equivocations }) };
 
     fn passes(&self, bits: [u64; WORDS]) -> bool {
-        let phase = Phase::Precommit;
+        let phase = self.phase;
         let weight = weighing::merged_weight(self.weights, bits, self.equivocations, phase);
         self.still.holds(weight)
     }

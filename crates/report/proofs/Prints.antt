@@ -18,9 +18,10 @@ use Rattle.report.specs.Report.{lines_by, lines_of, refused, printed}
 use Rattle.std.specs.Prelude.{Ok, Err}
 use Rattle.refusals.specs.declared.Refusal.TheVariants.{ShortBuffer}
 use Rattle.refusals.specs.declared.Refusal.{Refusal}
+use Rattle.refusals.specs.Number.{number}
 
 module _ (r : Replay) where
-  pub lines_stopped : (n : Refusal) → r.stop ≡ Err n → lines_of r ≡ text.refused n (plus r.records 1)
+  pub lines_stopped : (e : Refusal) → r.stop ≡ Err e → lines_of r ≡ text.refused (number e) (plus r.records 1)
   unfolding lines_of
   lines_stopped n e = ap (λ s. lines_by s r.journal.turn r) e
 

@@ -9,11 +9,12 @@ use Rattle.feeding.specs.declared.Replay.{Replay}
 use Rattle.feeding.specs.Feeding.{stands}
 use Rattle.lines.specs.Lines as text
 use Rattle.refusals.specs.declared.Refusal.{Refusal}
+use Rattle.refusals.specs.Number.{number}
 use Rattle.refusals.specs.declared.Refusal.TheVariants.{Misshapen, ShortBuffer}
 
 -- the refused record is the one after those taken
 abbrev pub lines_by : Result ⊤ Refusal → Turn → Replay → List ℕ
-lines_by (Err n) t r = text.refused n (plus r.records 1)
+lines_by (Err e) t r = text.refused (number e) (plus r.records 1)
 lines_by (Ok tt) Votes r = text.round_lines r.journal.round r.rest.count
 lines_by (Ok tt) Blocks r = text.no_round r.rest.count
 lines_by (Ok tt) Voters r = text.no_round r.rest.count

@@ -16,7 +16,7 @@ fn put(replay: Replay, out: &mut [u8; 512]) -> usize
     let journal = replay.journal;
     let tail = replay.rest.count;
     match replay.stop {
-        Err(refusal) => lines::put_refused(out, refusal, feeding::more(replay.records, 1)),
+        Err(refusal) => lines::put_refused(out, refusal.number(), feeding::more(replay.records, 1)),
         Ok(()) => match journal.turn {
             Turn::Votes => lines::put_round(out, journal.round, tail),
             Turn::Blocks | Turn::Voters => lines::put_no_round(out, tail),

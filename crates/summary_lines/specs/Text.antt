@@ -8,6 +8,7 @@ use Rattle.summary.specs.declared.Outcome.{Outcome}
 use Rattle.summary.specs.declared.Outcome.TheVariants.{Voting, Early, Refused}
 use Rattle.summary.specs.declared.Summary.{Summary}
 use Rattle.refusals.specs.declared.Refusal.TheVariants.{ShortBuffer}
+use Rattle.refusals.specs.Number.{number}
 
 unfoldable pub answer_text : Option (ℕ × ℕ) → Option (ℕ × ℕ) → Option (ℕ × ℕ) → Bool → List ℕ
 answer_text highest estimate finalized completable =
@@ -25,7 +26,7 @@ round_text s =
 abbrev pub text_by : Outcome → Summary → List ℕ
 text_by Voting s = round_text s
 text_by Early s = lines.no_round s.tail
-text_by (Refused n) s = lines.refused n (plus s.records 1)
+text_by (Refused e) s = lines.refused (number e) (plus s.records 1)
 
 unfoldable pub text_of : Summary → List ℕ
 text_of s = text_by s.outcome s

@@ -69,7 +69,7 @@ fn put(out: &mut [u8; 512], summary: Summary) -> usize
         Outcome::Early => lines::put_no_round(out, summary.tail),
         Outcome::Refused(refusal) => lines::put_refused(
             out,
-            refusal,
+            refusal.number(),
             feeding::more(summary.records, 1),
         ),
     }

@@ -4,7 +4,7 @@ use Rattle.report.proofs.Prints.{put_as, lines_stopped, lines_round, lines_early
 use Rattle.report.proofs.put.Goals as goal
 
 pub returns-in-Err : goal.returns-in-Err
-returns-in-Err c = put_as _ _ (ap (λ k. text.refused c.in-Err.refusal k) c.more.ensures ∙ sym (lines_stopped c.args.replay _ c.in-Err.is)) _ _ _ c.put_refused.ensures
+returns-in-Err c = put_as _ _ ((λ i. text.refused (c.number.ensures i) (c.more.ensures i)) ∙ sym (lines_stopped c.args.replay _ c.in-Err.is)) _ _ _ c.put_refused.ensures
 
 pub returns-in-Votes : goal.returns-in-Votes
 returns-in-Votes c = put_as _ _ (sym (lines_round c.args.replay c.in-Ok.is c.in-Votes.is)) _ _ _ c.put_round.ensures

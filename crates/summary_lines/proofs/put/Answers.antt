@@ -11,4 +11,4 @@ pub returns-in-Early : goal.returns-in-Early
 returns-in-Early c = put_as _ _ (sym (text_when c.args.summary _ c.in-Early.is)) _ _ _ c.put_no_round.ensures
 
 pub returns-in-Refused : goal.returns-in-Refused
-returns-in-Refused c = put_as _ _ (ap (λ k. lines.refused c.in-Refused.refusal k) c.more.ensures ∙ sym (text_when c.args.summary _ c.in-Refused.is)) _ _ _ c.put_refused.ensures
+returns-in-Refused c = put_as _ _ ((λ i. lines.refused (c.number.ensures i) (c.more.ensures i)) ∙ sym (text_when c.args.summary _ c.in-Refused.is)) _ _ _ c.put_refused.ensures
