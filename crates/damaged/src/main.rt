@@ -125,8 +125,8 @@ const FIELDS: [(&str, usize, usize, Kind); 36] = [
     ),
 ];
 
-// A line under a name.
-fn say_sums(mut to: Outputs, name: &str, sums: Sums) -> Result<()> {
+// The rest of a line, whose name stands already: it is said before the work, so that an output that is cut off ends in it.
+fn say_sums(mut to: Outputs, sums: Sums) -> Result<()> {
     let Sums {
         damaged,
         refused,
@@ -137,7 +137,7 @@ fn say_sums(mut to: Outputs, name: &str, sums: Sums) -> Result<()> {
     } = sums;
     write!(
         to,
-        "{name}: {damaged} damaged, {refused} refused, {passed} passed, "
+        ": {damaged} damaged, {refused} refused, {passed} passed, "
     )?;
     writeln!(
         to,
@@ -147,10 +147,12 @@ fn say_sums(mut to: Outputs, name: &str, sums: Sums) -> Result<()> {
 
 // All fields of a round, a line for each, under its name and digest.
 fn fields(mut to: Outputs, name: &str, good: &[u64; SIZE]) -> Result<()> {
+    to.say(name.as_bytes())?;
     let digest = round_words::digest(good);
-    writeln!(to, "{name}, digest {digest}")?;
+    writeln!(to, ", digest {digest}")?;
     for (name, start, count, kind) in FIELDS {
-        say_sums(to, name, damaging::places(good, start, count, kind))?;
+        to.say(name.as_bytes())?;
+        say_sums(to, damaging::places(good, start, count, kind))?;
     }
     Ok(())
 }

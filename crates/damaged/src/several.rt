@@ -151,7 +151,8 @@ const VOTE_BESIDE_THE_BASE_NOT_HEARD: [(usize, u64); 10] = [
 
 // A line for a round with several fields changed.
 fn several(to: Outputs, good: &[u64; SIZE], name: &str, sets: &[(usize, u64)]) -> Result<()> {
-    say_sums(to, name, damaging::several(good, sets))
+    to.say(name.as_bytes())?;
+    say_sums(to, damaging::several(good, sets))
 }
 
 pub fn of_opened(to: Outputs, good: &[u64; SIZE]) -> Result<()> {

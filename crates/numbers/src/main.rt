@@ -23,7 +23,10 @@ fn voters(to: &mut Outputs, name: &str, made: Result<VoterSet, Refusal>) -> io::
             let threshold = set.threshold();
             writeln!(to, "{name}: voters {count} threshold {threshold}")
         }
-        Err(refusal) => writeln!(to, "{name}: {refusal}"),
+        Err(refusal) => {
+            let number = refusal.number();
+            writeln!(to, "{name}: refused {number}")
+        }
     }
 }
 

@@ -2,7 +2,7 @@
 #![tactic(auto)]
 
 use feeding::Replay;
-use std::io::{Result, Stdin, Write};
+use std::io::{Print, Result, Stdin, Write};
 use streams::{Moved, Outputs};
 
 fn print(to: Outputs, replay: Replay) -> Result<()> {
@@ -56,7 +56,11 @@ fn run(mut input: Stdin, to: Outputs) -> Result<()> {
 // Says why an input has no pieces.
 fn unfit(to: Outputs, read: Result<Moved>) {
     match read {
-        Ok(Moved::All) => to.unfit(b"more than 4095 bytes"),
+        Ok(Moved::All) => {
+            let _ = to
+                .error
+                .write_all(b"pieces: standard input: more than 4095 bytes\n");
+        }
         _ => to.unread(read),
     }
 }

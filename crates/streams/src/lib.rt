@@ -134,53 +134,89 @@ fn words_of(text: &[u8]) -> usize
     number.map_or(text.len(), |at| at.saturating_sub(1))
 }
 
+// A line on standard error: whose stream failed, which it is, and the words. Where that fails too, there is nobody to tell.
+fn complain(error: Stderr, whose: &[u8], which: &[u8], words: &[u8]) {
+    let _ = error.write_all(whose);
+    let _ = error.write_all(which);
+    let _ = error.write_all(words);
+    let _ = error.write_all(b"\n");
+}
+
+// The same with the system's reason.
+fn complain_of(error: Stderr, whose: &[u8], which: &[u8], why: Error) {
+    let mut text = [0u8; 256];
+    let mut at = Cursor::new(&mut text[..]);
+    let _ = write!(at, "{why}");
+    let size = (at.position() as usize).min(256);
+    complain(error, whose, which, &text[..words_of(&text[..size])]);
+}
+
+// Some bytes to standard output, which is called by the two names where that fails.
+fn said(mut to: Outputs, whose: &[u8], which: &[u8], bytes: &[u8]) -> Result<()> {
+    match write(&mut to.out, bytes) {
+        Ok(Moved::All) => Ok(()),
+        Ok(Moved::Part(_)) => {
+            complain(to.error, whose, which, b"takes no more");
+            Err(Error::from(ErrorKind::WriteZero))
+        }
+        Err(why) => {
+            complain_of(to.error, whose, which, why);
+            Err(why)
+        }
+    }
+}
+
+// Why an input was not read to its end, which is called by the two names.
+fn not_read(error: Stderr, whose: &[u8], which: &[u8], read: Result<Moved>) {
+    match read {
+        Ok(Moved::All) => complain(error, whose, which, b"does not end"),
+        Ok(Moved::Part(_)) => {}
+        Err(why) => complain_of(error, whose, which, why),
+    }
+}
+
+// What `Outputs::say` does, under any name of the output in place of the program's.
+pub fn say(to: Outputs, output: &[u8], bytes: &[u8]) -> Result<()> {
+    said(to, output, b": ", bytes)
+}
+
+// What `Outputs::unread` does, under any name of the input.
+pub fn unread(to: Outputs, input: &[u8], read: Result<Moved>) {
+    not_read(to.error, input, b": ", read);
+}
+
+// What `Outputs::tell` does, under any name of the output.
+pub fn tell(to: Outputs, output: &[u8], read: Result<Moved>, bytes: &[u8]) -> Result<()>
+    requires { Ended read }
+{
+    say(to, output, bytes)
+}
+
 impl Outputs {
-    // A line on standard error: which of the program's streams failed and the words. Where that fails too, there is nobody to tell.
-    fn complain(self, stream: &str, words: &[u8]) {
-        let error = self.error;
-        let _ = error.write_all(self.program.as_bytes());
-        let _ = error.write_all(stream.as_bytes());
-        let _ = error.write_all(words);
-        let _ = error.write_all(b"\n");
-    }
-
-    // The same with the system's reason.
-    fn complain_of(self, stream: &str, why: Error) {
-        let mut text = [0u8; 256];
-        let mut at = Cursor::new(&mut text[..]);
-        let _ = write!(at, "{why}");
-        let size = (at.position() as usize).min(256);
-        self.complain(stream, &text[..words_of(&text[..size])]);
-    }
-
     // Writes some bytes to standard output. Where that fails, a line on standard error names the output and has the system's reason; the
     // caller then writes nothing more, so that no output has a gap and the reason is said once.
-    pub fn say(mut self, bytes: &[u8]) -> Result<()> {
-        match write(&mut self.out, bytes) {
-            Ok(Moved::All) => Ok(()),
-            Ok(Moved::Part(_)) => {
-                self.complain(": standard output: ", b"takes no more");
-                Err(Error::from(ErrorKind::WriteZero))
-            }
-            Err(why) => {
-                self.complain_of(": standard output: ", why);
-                Err(why)
-            }
-        }
+    pub fn say(self, bytes: &[u8]) -> Result<()> {
+        said(self, self.program.as_bytes(), b": standard output: ", bytes)
     }
 
     // Says on standard error what is wrong with the input.
     pub fn unfit(self, words: &[u8]) {
-        self.complain(": standard input: ", words);
+        complain(
+            self.error,
+            self.program.as_bytes(),
+            b": standard input: ",
+            words,
+        );
     }
 
     // Says why the input was not read to its end.
     pub fn unread(self, read: Result<Moved>) {
-        match read {
-            Ok(Moved::All) => self.unfit(b"does not end"),
-            Ok(Moved::Part(_)) => {}
-            Err(why) => self.complain_of(": standard input: ", why),
-        }
+        not_read(
+            self.error,
+            self.program.as_bytes(),
+            b": standard input: ",
+            read,
+        );
     }
 
     // Writes what an input tells. An input that was not read to its end tells nothing.
