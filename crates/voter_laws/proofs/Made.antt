@@ -1,6 +1,6 @@
 -- What `new` answers, and what a set that it makes holds.
 use mathlib.Core.Bool.{Bool, true, false, cond}
-use mathlib.Core.List.{List}
+use mathlib.Core.List.{List, []}
 use mathlib.Core.Path.{◌≡◌, refl, sym, ap, ◌∙◌}
 use mathlib.Core.Logic.{◌⊎◌, inl, inr, ◌≢◌}
 use Prim.Native.Nat.{ℕ, ◌≤◌, ◌<◌}
@@ -12,6 +12,7 @@ use borrow.Author.Tests.{eq-eqb, ne_eqb, lt-ltb, le-ltb}
 use Rattle.sizes.specs.Sizes.{VOTERS, PAIRS}
 use Rattle.loops.specs.Sum.{sum}
 use Rattle.loops.proofs.Sums.{sum_cong, sum_at, sum_some}
+use Rattle.columns.specs.Lists.{padded}
 use Rattle.columns.proofs.Padded.{length_padded, get_padded}
 use Rattle.weights.specs.Weights.{most}
 use Rattle.totals.specs.Totals.{total_of}
@@ -26,7 +27,7 @@ use Rattle.voter_pairs.proofs.Shares.{Live, weight_in, held, rising_pair, live_a
 use Rattle.voter_laws.proofs.Goods.{means_good}
 use Rattle.voter_laws.proofs.Lookups.{Known, Unknown, get_cases}
 use Rattle.refusals.specs.declared.Refusal.TheVariants.{NoWeight, TooManyVoters, VoterList, WeightOverflow}
-use Rattle.std.specs.Prelude.{Ok, Err}
+use Rattle.std.specs.Prelude.{Ok, Err, replicate}
 use Rattle.refusals.specs.declared.Refusal.{Refusal}
 use Rattle.voter_set.specs.declared.VoterSet.{VoterSet}
 
@@ -108,6 +109,11 @@ laid_good ps t r v e l =
       total_is = sym (sum_cong VOTERS _ _ (λ k h. get_padded VOTERS (weights_of ps) k) ∙ sum_weights VOTERS ps l ∙ e);
       threshold_is = refl;
     }
+
+-- a set without voters keeps the shape rules
+pub empty_good : Good (record { ids = replicate VOTERS 0; weights = replicate VOTERS 0; count = 0; threshold = 0; total = 0 })
+unfolding padded
+empty_good = laid_good [] 0 tt tt refl (omega arith)
 
 -- a set that was made is what the pairs say
 pub made_laid : (ids weights : List ℕ) {s : VoterSet} → new ids weights ≡ Ok s → s ≡ laid (voters ids weights (length ids)) (total_of weights)
